@@ -1,0 +1,81 @@
+#!/bin/sh
+# Times the built program: bench/run.sh [OTHER]
+# It prints, for each input, the median and the least of 20 runs and the peak memory. With the path of another program
+# that takes the same words and input it prints the same of that one, and how many times its median this one's is.
+# It needs python3, and /usr/bin/time for the memory: without it that column is a dash.
+top=$(cd "$(dirname "$0")/.." && pwd) || exit 1
+command -v python3 >/dev/null || {
+    echo "bench/run.sh: it needs python3" >&2
+    exit 1
+}
+"$top/risch" </dev/null 2>/dev/null # Builds the program where that is due. Without words it only says its usage.
+[ $? -eq 2 ] || {
+    echo "bench/run.sh: the program is not built: run $top/risch" >&2
+    exit 1
+}
+exec python3 - "$top/crates/risch/out/risch" "$@" <<'END'
+import os
+import statistics
+import subprocess
+import sys
+import time
+
+RUNS = 20
+TIME = "/usr/bin/time"
+
+
+def wide_sum():
+    """200 terms with wide coefficients."""
+    terms = (f"{3 ** (40 + n % 8)}*x^{n}/{2 ** (30 + n % 20)}" for n in range(200, 0, -1))
+    return "integrate " + "+".join(terms) + "\n"
+
+
+INPUTS = [
+    ("start-up (no words)", [], ""),
+    ("x^254", ["integrate"], "integrate x^254\n"),
+    ("a sum of 200 terms", ["integrate"], wide_sum()),
+    ("1 MiB of blanks", ["integrate"], " " * 1_048_576),
+]
+
+
+def run(command, text):
+    """Seconds, status and what standard error says."""
+    start = time.perf_counter()
+    done = subprocess.run(command, input=text.encode(), stdout=subprocess.DEVNULL, stderr=subprocess.PIPE)
+    return time.perf_counter() - start, done.returncode, done.stderr
+
+
+def peak(command, text):
+    """The peak of resident memory in KiB."""
+    if not os.access(TIME, os.X_OK):
+        return None
+    return int(run([TIME, "-f", "%M"] + command, text)[2].split()[-1])
+
+
+def measured(program, words, text):
+    command = [program] + words
+    runs = [run(command, text) for _ in range(RUNS)]
+    seconds = [each[0] for each in runs]
+    return statistics.median(seconds), min(seconds), peak(command, text), runs[0][1]
+
+
+def row(name, figures, ratio=None):
+    median, least, memory, status = figures
+    memory = "-" if memory is None else f"{memory:,}"
+    last = "" if ratio is None else f"{ratio:>10.4f}"
+    print(f"{name:<24}{status:>7}{1000 * median:>12.2f}{1000 * least:>12.2f}{memory:>12}{last}")
+
+
+def main(program, *others):
+    print(f"{'input':<24}{'status':>7}{'median ms':>12}{'least ms':>12}{'peak KiB':>12}"
+          + (f"{'ratio':>10}" if others else ""))
+    for name, words, text in INPUTS:
+        here = measured(program, words, text)
+        row(name, here)
+        for other in others:
+            there = measured(other, words, text)
+            row("  " + os.path.basename(other), there, here[0] / there[0])
+
+
+main(*sys.argv[1:])
+END

@@ -1,0 +1,87 @@
+// A case of a table: what a run is given, and what is expected of it.
+use crate::calls::Calls;
+use crate::escape::unescape;
+use crate::fault::Fault;
+use crate::outcome::Outcome;
+use crate::report::Report;
+use crate::value::{numbers, repeat, set, words};
+use risch_cli::run_here;
+use risch_io::BytesSource;
+use std::alloc::{AllocError, Global};
+
+#[derive(Drop)]
+pub struct Case {
+    name: String,
+    words: Option<Vec<String>>,
+    input: Vec<u8>,
+    out: Vec<u8>,
+    err: Vec<u8>,
+    status: Option<u8>,
+    source_calls: Calls,
+    out_calls: Calls,
+    err_calls: Calls,
+}
+
+impl Case {
+    pub fn new(alloc: Global, name: &str) -> Result<Case, AllocError> {
+        Ok(Case {
+            name: String::from_str(alloc, name)?,
+            words: None,
+            input: Vec::new(alloc),
+            out: Vec::new(alloc),
+            err: Vec::new(alloc),
+            status: None,
+            source_calls: Calls::new(),
+            out_calls: Calls::new(),
+            err_calls: Calls::new(),
+        })
+    }
+
+    /// Reads a line of the case.
+    pub fn read(&mut self, alloc: Global, key: &str, value: &str) -> Result<(), Fault> {
+        match key {
+            "words" => set(&mut self.words, words(alloc, value)?),
+            "input" => unescape(&mut self.input, value),
+            "input-repeat" => repeat(alloc, &mut self.input, value),
+            "out" => unescape(&mut self.out, value),
+            "err" => unescape(&mut self.err, value),
+            "status" => set(&mut self.status, value.parse()?),
+            "source-piece" => set(&mut self.source_calls.piece, value.parse()?),
+            "source-fails" => set(&mut self.source_calls.fails, numbers(alloc, value)?),
+            "out-piece" => set(&mut self.out_calls.piece, value.parse()?),
+            "out-room" => set(&mut self.out_calls.room, value.parse()?),
+            "out-fails" => set(&mut self.out_calls.fails, numbers(alloc, value)?),
+            "err-piece" => set(&mut self.err_calls.piece, value.parse()?),
+            "err-room" => set(&mut self.err_calls.room, value.parse()?),
+            "err-fails" => set(&mut self.err_calls.fails, numbers(alloc, value)?),
+            _ => Err(Fault::Key),
+        }
+    }
+
+    /// Runs the program, and tells where it differs from what is expected.
+    pub fn play(&self, alloc: Global, report: &mut Report) -> Result<(), Fault> {
+        let words = self.words.as_ref().ok_or(Fault::NoWords)?;
+        let status = self.status.ok_or(Fault::NoStatus)?;
+        let words: Vec<&str> = words.iter().map(|word| word.as_str()).collect(alloc)?;
+        let mut source = BytesSource::new(
+            self.input.as_slice(),
+            self.source_calls.piece(),
+            self.source_calls.fails(),
+        );
+        let mut out = self.out_calls.sink(alloc)?;
+        let mut err = self.err_calls.sink(alloc)?;
+        let ended = run_here(alloc, &words, &mut source, &mut out, &mut err);
+        let expected = Outcome {
+            out: self.out.as_slice(),
+            err: self.err.as_slice(),
+            status,
+        };
+        let got = Outcome {
+            out: out.taken(),
+            err: err.taken(),
+            status: ended.code,
+        };
+        report.compare(self.name.as_str(), &expected, &got)?;
+        Ok(())
+    }
+}
