@@ -1,0 +1,9 @@
+pub mod CheckedSteps
+pub mod CoefficientLists
+pub mod DivisionSteps
+pub mod LiftedPolynomials
+pub mod PolynomialShapes
+pub mod PolynomialValues
+pub mod FractionValues
+pub mod Monomials
+pub mod Derivatives

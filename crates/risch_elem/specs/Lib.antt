@@ -1,0 +1,13 @@
+pub mod Checked
+pub mod Ops
+pub mod Ground
+pub mod Poly
+pub mod Polynomial
+pub mod Replaced
+pub mod Meaning
+pub mod FractionMeaning
+pub mod Over
+pub mod Levels
+pub mod GroundLaws
+pub mod Laws
+pub mod Tower

@@ -1,0 +1,11 @@
+pub mod PolynomialMaps
+pub mod LinearFactors
+pub mod Roots
+pub mod LagrangeInterpolation
+pub mod TraceAtRoots
+pub mod Newton
+pub mod NewtonPolynomial
+pub mod GcdAtRoots
+pub mod Extensions
+pub mod SplittingField
+pub mod ResiduesAtRoots

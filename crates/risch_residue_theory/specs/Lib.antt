@@ -1,0 +1,5 @@
+pub mod BivariatePolynomial
+pub mod RemainderSequence
+pub mod Residue
+pub mod Logarithm
+pub mod LogarithmArgument

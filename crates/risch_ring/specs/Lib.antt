@@ -1,0 +1,6 @@
+pub mod CommRing
+pub mod Integers
+pub mod Operators
+pub mod Lists
+pub mod Sums
+pub mod LogarithmicDerivative

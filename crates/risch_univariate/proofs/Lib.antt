@@ -1,0 +1,17 @@
+pub mod Coefficients
+pub mod PolynomialInduction
+pub mod Degree
+pub mod Identities
+pub mod Division
+pub mod Divides
+pub mod Gcd
+pub mod Evaluation
+pub mod Derivation
+pub mod FormalDerivative
+pub mod Irreducible
+pub mod Multiplicity
+pub mod SquareFree
+pub mod QuotientIdentities
+pub mod SquareFreeParts
+pub mod SplittingFactorization
+pub mod Special
