@@ -1,0 +1,195 @@
+// The value of an expression over x: a polynomial in x with fractions as coefficients.
+ghost use Rattle.std.specs.Prelude.{◌≡◌, ◌≤◌, ◌<◌, [], ◌∷◌, length, IfOk, OnOk, OnErr, MatchOption};
+ghost use Rattle.risch_frac.specs.Fraction.{is_zero};
+ghost use Rattle.risch_mean.specs.Written.{Expression};
+ghost use Rattle.risch_elem.specs.Checked.{Agrees, AgreesWith, map_ok};
+ghost use Rattle.risch_elem.specs.Ground.{ground};
+ghost use Rattle.risch_elem.specs.Poly as poly;
+ghost use Rattle.risch_cli.specs.Evaluation as spec;
+ghost use Rattle.risch_cli.specs.Program.{steps};
+
+use crate::program::{Operation, Step};
+use risch_elem::{Arith, Fail, Poly};
+use risch_frac::Frac;
+use std::alloc::{AllocError, Global};
+use std::marker::Model;
+
+/// Values, the last put on top.
+#[derive(Drop)]
+struct Stack {
+    below: Vec<Poly<Frac>>,
+}
+
+impl Model for Stack {
+    ghost use Rattle.std.specs.Prelude.{List, reverse};
+    ghost use Rattle.risch_frac.specs.Fraction.{Fraction};
+
+    ghost Value = { List (List Fraction) };
+
+    ghost view = { λ s. reverse s.below.items };
+}
+
+impl Stack {
+    fn new(alloc: Global) -> Stack
+        ensures { result ≡ [] }
+    {
+        Stack {
+            below: Vec::new(alloc),
+        }
+    }
+
+    fn push(&mut self, value: Poly<Frac>) -> Result<(), Fail>
+        ensures { AgreesWith result self.new (Ok (value ∷ self.old)) }
+    {
+        self.below.push(value)?;
+        Ok(())
+    }
+
+    fn pop(&mut self) -> Option<Poly<Frac>>
+        ensures { MatchOption result ((self.old ≡ []) × (self.new ≡ [])) (λ value. self.old ≡ value ∷ self.new) }
+    {
+        self.below.pop()
+    }
+
+    /// Takes the operands of a step, and puts its value on the top.
+    fn apply(&mut self, alloc: Global, step: Step) -> Result<(), Fail>
+        ensures { AgreesWith result self.new (spec.apply step self.old) }
+    {
+        let value = match step {
+            Step::Number(number) => constant(alloc, number)?,
+            Step::Variable(_) => variable(alloc)?,
+            Step::Negated => {
+                let Some(value) = self.pop() else {
+                    return Ok(());
+                };
+                value.neg(alloc)?
+            }
+            Step::Joined(operation) => {
+                let (Some(right), Some(left)) = (self.pop(), self.pop()) else {
+                    return Ok(());
+                };
+                operate(alloc, operation, &left, &right)?
+            }
+            Step::Raised(exponent) => {
+                let Some(base) = self.pop() else {
+                    return Ok(());
+                };
+                power(alloc, &base, exponent)?
+            }
+        };
+        self.push(value)
+    }
+}
+
+/// c as a polynomial.
+fn constant(alloc: Global, number: Frac) -> Result<Poly<Frac>, AllocError>
+    ensures { IfOk result (λ it. it ≡ spec.constant number) }
+{
+    if number.is_zero() {
+        Ok(Poly::zero(alloc))
+    } else {
+        Poly::constant(alloc, number)
+    }
+}
+
+/// The coefficient at exponent 0.
+fn first(value: &Poly<Frac>) -> Frac
+    ensures { result ≡ poly.coefficient ground value.now 0 }
+{
+    match value.coefficients().first() {
+        Some(coefficient) => *coefficient,
+        None => Frac::zero(),
+    }
+}
+
+/// x.
+#[tactic(auto, using(crate::proofs::Quotients::variable_is))]
+fn variable(alloc: Global) -> Result<Poly<Frac>, Fail>
+    ensures { Agrees result (Ok spec.the_variable) }
+{
+    Poly::monomial(alloc, Frac::one(), 1)
+}
+
+/// The value of an operation on two polynomials, of which a divisor is a number.
+#[tactic(auto, unfolding(crate::specs::Evaluation::operate))]
+fn operate(
+    alloc: Global,
+    operation: Operation,
+    left: &Poly<Frac>,
+    right: &Poly<Frac>,
+) -> Result<Poly<Frac>, Fail>
+    ensures { Agrees result (spec.operate operation left.now right.now) }
+{
+    match operation {
+        Operation::Sum => left.add(alloc, right),
+        Operation::Difference => left.add(alloc, &right.neg(alloc)?),
+        Operation::Product => left.mul(alloc, right),
+        Operation::Quotient => divided(alloc, left, first(right)),
+    }
+}
+
+/// p/c.
+#[tactic(auto, using(crate::proofs::Quotients::divided_short, crate::proofs::Quotients::divided_long))]
+fn divided(alloc: Global, value: &Poly<Frac>, divisor: Frac) -> Result<Poly<Frac>, Fail>
+    ensures { Agrees result (spec.divided value.now divisor) }
+{
+    if value.coefficients().len() <= 1 {
+        divided_number(alloc, first(value), divisor)
+    } else {
+        divided_polynomial(alloc, value, divisor)
+    }
+}
+
+/// a/c as a polynomial.
+fn divided_number(alloc: Global, value: Frac, divisor: Frac) -> Result<Poly<Frac>, Fail>
+    ensures { Agrees result (map_ok spec.constant (ground.quotient value divisor)) }
+{
+    let quotient = Arith::div(&value, alloc, &divisor)?;
+    Ok(constant(alloc, quotient)?)
+}
+
+/// p scaled by 1/c.
+#[tactic(auto, using(risch_elem::proofs::CheckedSteps::stop_passes, risch_elem::proofs::CheckedSteps::value_passes))]
+fn divided_polynomial(alloc: Global, value: &Poly<Frac>, divisor: Frac) -> Result<Poly<Frac>, Fail>
+    ensures { Agrees result (spec.by_inverse value.now divisor) }
+{
+    let inverse = Arith::div(&Frac::one(), alloc, &divisor)?;
+    value.scale(alloc, &inverse)
+}
+
+/// p^n, by n - 1 products with p on the right.
+#[tactic(auto, using(crate::proofs::Powers::power_begin, crate::proofs::Powers::power_stops, crate::proofs::Powers::power_more, crate::proofs::Powers::power_done), unfolding(crate::specs::Evaluation::power_of))]
+fn power(alloc: Global, base: &Poly<Frac>, exponent: u16) -> Result<Poly<Frac>, Fail>
+    ensures { Agrees result (spec.power_of base.now exponent) }
+{
+    if exponent == 0 {
+        return Ok(constant(alloc, Frac::one())?);
+    }
+    let mut value = base.copy(alloc)?;
+    for _ in 1..exponent {
+        value = value.mul(alloc, base)?;
+    }
+    Ok(value)
+}
+
+/// The value of an expression over x, given by its steps.
+pub(crate) fn evaluate(alloc: Global, program: &[Step]) -> Result<Poly<Frac>, Fail>
+    ensures { (tree : Expression) → program.now ≡ steps tree → Agrees result (spec.evaluate tree) }
+{
+    value_of(alloc, program)
+}
+
+/// The value that the steps leave on the top of the stack.
+#[tactic(auto, using(crate::proofs::Runs::run_stops, crate::proofs::Runs::run_some, crate::proofs::Runs::run_none))]
+fn value_of(alloc: Global, program: &[Step]) -> Result<Poly<Frac>, Fail>
+    ensures { Agrees result (spec.result_of program.now) }
+{
+    let mut stack = Stack::new(alloc);
+    for step in program {
+        stack.apply(alloc, *step)?;
+    }
+    match stack.pop() {
+        Some(value) => Ok(value),
+        None => Ok(Poly::zero(alloc)),
+    }
+}

@@ -1,0 +1,101 @@
+// Reads a problem file.
+ghost use Rattle.std.specs.Prelude.{◌≡◌, Bool, false, List, ◌∷◌, None, MatchOption, IfOk, IsErrOf};
+ghost use Rattle.risch_cli.specs.declared.program.Step.{Step};
+ghost use Rattle.risch_cli.specs.Program.{serve_from};
+ghost use Rattle.risch_cli.specs.File as asked;
+ghost use Rattle.risch_cli.specs.Asked.{IsRead, Reads};
+
+use crate::program::{Operation, Program, Step};
+use crate::reading::{Parser, ReadFault};
+use crate::words::Words;
+use std::alloc::{AllocError, Global};
+
+/// What a problem file asks for: what is not yet served, or the integral of an expression.
+#[derive(Drop)]
+pub(crate) enum ReadFile {
+    NotYet,
+    Problem(Program),
+}
+
+/// The most parentheses that may be open: none is read yet.
+const MOST_OPEN: u8 = 0;
+
+/// What a problem file asks for.
+#[tactic(auto, using(crate::proofs::Asking::read_fault, crate::proofs::Asking::read_problem, crate::proofs::Asking::read_unserved))]
+pub(crate) fn read(alloc: Global, file: &[u8]) -> Result<ReadFile, AllocError>
+    ensures { IfOk result (λ it. Reads it (asked.read file.now)) }
+{
+    match integrand_line(alloc, Words::start(file)) {
+        Ok(program) => if serves(program.as_slice()) {
+            Ok(ReadFile::Problem(program))
+        } else {
+            Ok(ReadFile::NotYet)
+        },
+        Err(ReadFault::Syntax) => Ok(ReadFile::NotYet),
+        Err(ReadFault::Memory) => Err(AllocError),
+    }
+}
+
+/// The steps of the expression E where the file is the one line `integrate E`.
+#[tactic(auto, using(crate::proofs::Asking::line_other, crate::proofs::Asking::line_fault, crate::proofs::Asking::line_goes_on, crate::proofs::Asking::line_read))]
+fn integrand_line(alloc: Global, words: Words<'_>) -> Result<Program, ReadFault>
+    ensures read { IfOk result (λ program. IsRead program (asked.integrand_line words.entry)) }
+    ensures fault { IsErrOf result ReadFault.Syntax → asked.integrand_line words.entry ≡ None }
+{
+    let mut parser = Parser {
+        words,
+        program: Program::new(alloc),
+    };
+    if !parser.words.take_word(b"integrate") {
+        return Err(ReadFault::Syntax);
+    }
+    parser.sum(MOST_OPEN)?;
+    if !parser.words.ends() {
+        return Err(ReadFault::Syntax);
+    }
+    Ok(parser.program)
+}
+
+/// Whether the steps use no variable but x, and divide only by numbers other than 0.
+fn serves(steps: &[Step]) -> bool
+    ensures { result ≡ serve_from false steps.now }
+{
+    let mut divisor = false;
+    for step in steps {
+        let Some(next) = next_divisor(divisor, step) else {
+            return false;
+        };
+        divisor = next;
+    }
+    true
+}
+
+// Whether the step is a number other than 0, which may divide. There is no answer where the step is not served.
+fn next_divisor(divisor: bool, step: &Step) -> Option<bool>
+    ensures { MatchOption result ((more : List Step) → serve_from divisor (step.now ∷ more) ≡ false)
+        (λ next. (more : List Step) → serve_from divisor (step.now ∷ more) ≡ serve_from next more) }
+{
+    match step {
+        Step::Number(number) => Some(!number.is_zero()),
+        Step::Variable(level) => (*level == 0).then_some(false),
+        Step::Joined(Operation::Quotient) => divisor.then_some(false),
+        Step::Negated | Step::Joined(_) | Step::Raised(_) => Some(false),
+    }
+}
+
+#[cfg(test)]
+mod tests {
+    use super::*;
+    use std::test::Fail;
+
+    #[test]
+    fn a_file_is_a_program(rt: HostRuntime) -> Result<(), Fail> {
+        let file = b"integrate\t-3 - x*02^2\r\n";
+        let steps = match read(rt.alloc(), file)? {
+            ReadFile::Problem(program) => program.as_slice().len(),
+            ReadFile::NotYet => 0,
+        };
+        assert_eq!(rt; steps, 7);
+        Ok(())
+    }
+}
