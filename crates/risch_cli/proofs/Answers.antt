@@ -15,7 +15,7 @@ use Rattle.risch_cli.specs.declared.stop.Stop.TheVariants.{Overflow, Size}
 use Rattle.risch_cli.specs.declared.procedure.Outcome.{Outcome}
 use Rattle.risch_cli.specs.declared.procedure.Outcome.TheVariants.{Integral, Stopped, Disagree}
 use Rattle.risch_cli.specs.Printing.{print_integral}
-use Rattle.risch_cli.specs.File.{Reading, not_yet, problem, read}
+use Rattle.risch_cli.specs.File.{Reading, not_yet, fault, problem, read}
 use Rattle.risch_cli.specs.Evaluation.{evaluate}
 use Rattle.risch_cli.specs.Procedure.{answer, stop_of}
 use Rattle.risch_cli.specs.Meaning as meaning
@@ -51,6 +51,7 @@ outcome_status (Disagree left right) = answers 11 (λ e. absurd (omega arith)) (
 
 reading_status : (reading : Reading) → IsAnswer (respond reading).status
 reading_status not_yet = answers 13 (λ e. absurd (omega arith)) (λ e. absurd (omega arith)) (λ e. absurd (omega arith))
+reading_status fault = answers 3 (λ e. absurd (omega arith)) (λ e. absurd (omega arith)) (λ e. absurd (omega arith))
 reading_status (problem tree) = outcome_status (outcome_for (evaluate tree))
 
 said_status : (words : List (List ℕ)) (bytes : List ℕ) → IsAnswer (said words bytes).status
@@ -103,6 +104,7 @@ value_prints bytes tree (Err fail) asked value zero = absurd (stop_is_no_answer 
 
 reading_prints : (bytes : List ℕ) (reading : Reading) → read bytes ≡ reading → (respond reading).status ≡ 0 → PrintsIntegral bytes (respond reading).out
 reading_prints bytes not_yet asked zero = absurd (omega arith)
+reading_prints bytes fault asked zero = absurd (omega arith)
 reading_prints bytes (problem tree) asked zero = value_prints bytes tree (evaluate tree) asked refl zero
 
 said_integral : (words : List (List ℕ)) (bytes : List ℕ) → (said words bytes).status ≡ 0 → PrintsIntegral bytes (said words bytes).out

@@ -5,9 +5,9 @@ use Rattle.std.proofs.lemmas.Bool.{leb-true, cond_both}
 use Rattle.risch_mean.specs.Written.{Expression, number, name, negated, sum, difference, product, quotient, power}
 use Rattle.risch_cli.specs.declared.program.Operation.{Operation}
 use Rattle.risch_cli.specs.declared.program.Operation.TheVariants.{Sum, Difference, Product, Quotient}
-use Rattle.risch_cli.specs.Words.{Numeral, numeral, at_most, more_digits, is_digit, after_blanks, after_byte, after_word}
+use Rattle.risch_cli.specs.Words.{Numeral, numeral, at_most, more_digits, is_digit, after_byte, after_word}
 use Rattle.risch_cli.specs.Grammar.{Parsed, parsed, Rule, and_next, or_else, number_atom, variable_atom, atom, raised, with_exponent, power_rule, Sign, joined, joined_by_sign, joined_by, chain, product_sign, sum_sign, term_rule, opposite, first_term, sum_rule, closed, grouped, atom_in, power_in, term_in, sum_in, expression}
-use Rattle.risch_cli.specs.File.{Reading, problem, not_yet, whole_line, integrand_line, is_served, served, read, ends}
+use Rattle.risch_cli.specs.File.{Reading, problem, fault, not_yet, whole_line, integrand_line, is_served, served, read_from, read, ends, after_lines}
 
 -- each number is at most 2^127 - 1
 abbrev pub NumbersFit : Expression → Type 0
@@ -124,11 +124,12 @@ fit-grouped (suc n) bytes =
 
 fit-expression : FitRule expression
 unfolding expression sum_in term_in power_in atom_in
-fit-expression bytes = fit-sum _ (fit-term _ (fit-power _ (fit-atom (grouped 0) (fit-grouped 0)))) bytes
+fit-expression bytes = fit-sum _ (fit-term _ (fit-power _ (fit-atom (grouped 64) (fit-grouped 64)))) bytes
 
 -- ---- of a file
 abbrev FitReading : Reading → Type 0
 FitReading not_yet = Unit {0}
+FitReading fault = Unit {0}
 FitReading (problem a) = NumbersFit a × (is_served a ≡ true)
 
 fit-line : (p : Parsed) → NumbersFit p.tree → (a : Expression) → whole_line p ≡ Some a → NumbersFit a
@@ -151,9 +152,13 @@ fit-integrand_line : (bytes : List ℕ) (a : Expression) → integrand_line byte
 unfolding integrand_line
 fit-integrand_line bytes a h = parsed_line (and_next (after_word (codes "integrate") bytes) expression) (fit-next _ expression (λ rest e. fit-expression rest)) a h
 
+fit-read_from : (word : Option (List ℕ)) (start : List ℕ) → FitReading (read_from word start)
+fit-read_from (Some rest) start = tt
+fit-read_from None start = fit-served (integrand_line start) (fit-integrand_line start)
+
 fit-read : (bytes : List ℕ) → FitReading (read bytes)
 unfolding read
-fit-read bytes = fit-served (integrand_line (after_blanks bytes)) (fit-integrand_line (after_blanks bytes))
+fit-read bytes = fit-read_from (after_word (codes "t1") (after_lines false bytes)) (after_lines false bytes)
 
 -- What a file asks for has numbers that fit, x as its only variable, and only numbers other than 0 as divisors.
 pub asked-fits : (bytes : List ℕ) (a : Expression) → read bytes ≡ problem a → NumbersFit a × (is_served a ≡ true)

@@ -2,6 +2,7 @@
 use Rattle.std.proofs.Common.{◌≡◌, ◌≢◌, ℕ, ◌+◌, ◌-◌, ◌*◌, ◌≤◌, ◌<◌, List, [], ◌∷◌, ◌++◌, length, Bool, true, false, cond, not, refl, ◌∙◌, arith, Some, None, nat_le, ◌==◌}
 use Rattle.std.proofs.lemmas.Bool.{le-leb, lt-leb, cond-true, cond-false, eq-eqb, eqb-true, ne_eqb, cond_both}
 use Rattle.risch_cli.specs.Words.{is_blank, after_blanks, after_byte, is_digit, goes_on, after_word, Numeral, more_digits, numeral}
+use Rattle.risch_cli.specs.File.{after_lines}
 
 pub after_blanks_end : (bytes : List ℕ) → length bytes ≡ 0 → after_blanks bytes ≡ bytes
 unfolding after_blanks
@@ -92,3 +93,29 @@ pub numeral_found : (most : ℕ) (bytes : List ℕ) (b : ℕ) (bs : List ℕ) (n
 unfolding numeral
 numeral_found most bytes b bs n e h same low =
     rw e (cond-true (is_digit b) _ _ h ∙ rw same (cond-true (nat_le n.value most) _ _ (le-leb n.value most low)))
+
+pub after_lines_end : (in_comment : Bool) (bytes : List ℕ) → length bytes ≡ 0 → after_lines in_comment bytes ≡ bytes
+unfolding after_lines
+after_lines_end in_comment [] h = refl
+after_lines_end in_comment (b ∷ bs) h = absurd (omega arith)
+
+pub after_lines_in_comment : (bytes : List ℕ) (b : ℕ) (bs : List ℕ) → bytes ≡ b ∷ bs → after_lines true bytes ≡ after_lines (not (b == 10)) bs
+unfolding after_lines
+after_lines_in_comment bytes b bs e = rw e refl
+
+pub after_lines_blank : (bytes : List ℕ) (b : ℕ) (bs : List ℕ) → bytes ≡ b ∷ bs → is_blank b bs ≡ true → after_lines false bytes ≡ after_lines false bs
+unfolding after_lines
+after_lines_blank bytes b bs e h = rw e (cond-true (is_blank b bs) _ _ h)
+
+pub after_lines_line : (bytes : List ℕ) (b : ℕ) (bs : List ℕ) → bytes ≡ b ∷ bs → b ≡ 10 → after_lines false bytes ≡ after_lines false bs
+unfolding after_lines
+after_lines_line bytes b bs e h = rw (e, h) refl
+
+pub after_lines_comment : (bytes : List ℕ) (b : ℕ) (bs : List ℕ) → bytes ≡ b ∷ bs → b ≡ 35 → after_lines false bytes ≡ after_lines true bs
+unfolding after_lines
+after_lines_comment bytes b bs e h = rw (e, h) refl
+
+pub after_lines_stop : (bytes : List ℕ) (b : ℕ) (bs : List ℕ) → bytes ≡ b ∷ bs → is_blank b bs ≡ false → b ≢ 10 → b ≢ 35 → after_lines false bytes ≡ bytes
+unfolding after_lines
+after_lines_stop bytes b bs e h line comment =
+    rw e (cond-false (is_blank b bs) _ _ h ∙ (cond-false (b == 10) _ _ (ne_eqb b 10 line) ∙ cond-false (b == 35) _ _ (ne_eqb b 35 comment)))

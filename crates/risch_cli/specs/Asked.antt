@@ -3,10 +3,10 @@ use Rattle.std.specs.Prelude.{◌≡◌, ℕ, Option, Some, List, ◌++◌}
 use Rattle.risch_mean.specs.Written.{Expression}
 use Rattle.risch_cli.specs.declared.program.Step.{Step}
 use Rattle.risch_cli.specs.declared.file.ReadFile.{ReadFile}
-use Rattle.risch_cli.specs.declared.file.ReadFile.TheVariants.{NotYet, Problem}
+use Rattle.risch_cli.specs.declared.file.ReadFile.TheVariants.{NotYet, Fault, Problem}
 use Rattle.risch_cli.specs.Program.{steps}
 use Rattle.risch_cli.specs.Grammar.{Parsed, parsed}
-use Rattle.risch_cli.specs.File.{Reading, problem, not_yet}
+use Rattle.risch_cli.specs.File.{Reading, problem, fault, not_yet}
 
 -- An expression is parsed: its steps are appended to the program, and the rest of the bytes is at hand.
 pub record IsParsed (value : Option Parsed) (program_old program_new : List Step) (rest : List ℕ) : Type 0 where
@@ -29,4 +29,5 @@ pub record IsProblem (program : List Step) (reading : Reading) : Type 0 where
 -- what a file is read as
 abbrev pub Reads : ReadFile → Reading → Type 0
 Reads NotYet reading = reading ≡ not_yet
+Reads Fault reading = reading ≡ fault
 Reads (Problem program) reading = IsProblem program reading

@@ -60,9 +60,9 @@ pub record Sign : Type 0 where
 abbrev pub signed : Operation → List ℕ → Option Sign
 signed operation rest = Some (record { operation = operation; rest = rest })
 
--- `*`
+-- `*` or `/`
 unfoldable pub product_sign : List ℕ → Option Sign
-product_sign bytes = and_next (after_byte 42 bytes) (signed Product)
+product_sign bytes = or_else (and_next (after_byte 42 bytes) (signed Product)) (and_next (after_byte 47 bytes) (signed Quotient))
 
 -- `+` or `-`
 unfoldable pub sum_sign : List ℕ → Option Sign
@@ -86,7 +86,7 @@ joined_by sign operand (suc n) p = joined_by_sign operand (joined_by sign operan
 abbrev pub chain : (List ℕ → Option Sign) → Rule → Parsed → Option Parsed
 chain sign operand p = joined_by sign operand (length p.rest) p
 
--- a term: a power, then any number of `*` each with a power
+-- a term: a power, then any number of `*` or `/` each with a power
 unfoldable pub term_rule : Rule → Rule
 term_rule factor bytes = and_next (factor bytes) (chain product_sign factor)
 
@@ -122,6 +122,6 @@ term_in open_left = term_rule (power_in open_left)
 unfoldable pub sum_in : ℕ → Rule
 sum_in open_left = sum_rule (term_in open_left)
 
--- an expression: a sum in which no parenthesis is opened yet
+-- an expression: a sum with at most 64 parentheses open
 unfoldable pub expression : Rule
-expression = sum_in 0
+expression = sum_in 64

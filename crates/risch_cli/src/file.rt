@@ -10,33 +10,38 @@ use crate::reading::{Parser, ReadFault};
 use crate::words::Words;
 use std::alloc::{AllocError, Global};
 
-/// What a problem file asks for: what is not yet served, or the integral of an expression.
+/// What a problem file asks for: what is not yet served, nothing since its syntax is at fault, or the integral of an expression.
 #[derive(Drop)]
 pub(crate) enum ReadFile {
     NotYet,
+    Fault,
     Problem(Program),
 }
 
-/// The most parentheses that may be open: none is read yet.
-const MOST_OPEN: u8 = 0;
+/// The most parentheses that may be open.
+const MOST_OPEN: u8 = 64;
 
-/// What a problem file asks for.
-#[tactic(auto, using(crate::proofs::Asking::read_fault, crate::proofs::Asking::read_problem, crate::proofs::Asking::read_unserved))]
+/// What a problem file asks for. Where its first token is `t1`, or some divisor is no number other than 0, it is not yet served.
+#[tactic(auto, using(crate::proofs::Asking::read_extension, crate::proofs::Asking::read_fault, crate::proofs::Asking::read_problem, crate::proofs::Asking::read_unserved))]
 pub(crate) fn read(alloc: Global, file: &[u8]) -> Result<ReadFile, AllocError>
     ensures { IfOk result (λ it. Reads it (asked.read file.now)) }
 {
-    match integrand_line(alloc, Words::start(file)) {
+    let mut words = Words::start(file);
+    if words.take_word(b"t1") {
+        return Ok(ReadFile::NotYet);
+    }
+    match integrand_line(alloc, words) {
         Ok(program) => if serves(program.as_slice()) {
             Ok(ReadFile::Problem(program))
         } else {
             Ok(ReadFile::NotYet)
         },
-        Err(ReadFault::Syntax) => Ok(ReadFile::NotYet),
+        Err(ReadFault::Syntax) => Ok(ReadFile::Fault),
         Err(ReadFault::Memory) => Err(AllocError),
     }
 }
 
-/// The steps of the expression E where the file is the one line `integrate E`.
+/// The steps of the expression E where the file is the one line `integrate E`, with blank lines and comments around it.
 #[tactic(auto, using(crate::proofs::Asking::line_other, crate::proofs::Asking::line_fault, crate::proofs::Asking::line_goes_on, crate::proofs::Asking::line_read))]
 fn integrand_line(alloc: Global, words: Words<'_>) -> Result<Program, ReadFault>
     ensures read { IfOk result (λ program. IsRead program (asked.integrand_line words.entry)) }
@@ -90,10 +95,10 @@ mod tests {
 
     #[test]
     fn a_file_is_a_program(rt: HostRuntime) -> Result<(), Fail> {
-        let file = b"integrate\t-3 - x*02^2\r\n";
+        let file = b" # a comment\n\nintegrate\t-(3 - x/02)^2\r\n#";
         let steps = match read(rt.alloc(), file)? {
             ReadFile::Problem(program) => program.as_slice().len(),
-            ReadFile::NotYet => 0,
+            ReadFile::NotYet | ReadFile::Fault => 0,
         };
         assert_eq!(rt; steps, 7);
         Ok(())

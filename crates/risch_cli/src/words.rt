@@ -1,6 +1,7 @@
 // The bytes at hand: what stands at their front is taken off, and the blanks behind it.
 ghost use Rattle.std.specs.Prelude.{◌≡◌, ◌≤◌, ◌^◌, false, true, length, IfSome, MatchOption};
 ghost use Rattle.risch_cli.specs.File as asked;
+ghost use Rattle.risch_cli.specs.File.{after_lines};
 ghost use Rattle.risch_cli.specs.Words as spec;
 ghost use Rattle.risch_cli.specs.Words.{after_byte, after_word, numeral};
 ghost use Rattle.risch_cli.specs.Taken.{Takes, TakesNumber};
@@ -22,12 +23,12 @@ impl<'a> Model for Words<'a> {
 }
 
 impl<'a> Words<'a> {
-    /// The bytes of a file past the blanks at its front.
+    /// The bytes of a file from its first line on that is neither blank nor a comment.
     pub(crate) fn start(file: &'a [u8]) -> Words<'a>
-        ensures { result ≡ spec.after_blanks file.now }
+        ensures { result ≡ after_lines false file.now }
     {
         Words {
-            rest: past_blanks(file),
+            rest: from_first_line(file),
         }
     }
 
@@ -86,13 +87,13 @@ impl<'a> Words<'a> {
         Some(value)
     }
 
-    /// Whether the line ends here, and the file with it.
+    /// Whether a line ends here, and only blank lines and comments follow.
     pub(crate) fn ends(&self) -> bool
         ensures { result ≡ asked.ends self.now }
     {
-        match self.rest {
-            [byte] => *byte == b'\n',
-            _ => false,
+        match self.rest.split_first() {
+            Some((byte, after)) => *byte == b'\n' && from_first_line(after).is_empty(),
+            None => true,
         }
     }
 }
@@ -117,6 +118,27 @@ fn past_blanks(bytes: &[u8]) -> &[u8]
     while let Some((byte, after)) = rest.split_first() {
         if !is_blank(*byte, after) {
             return rest;
+        }
+        rest = after;
+    }
+    rest
+}
+
+// The bytes from the first line on that is neither blank nor a comment, without the blanks before it.
+#[tactic(auto, using(crate::proofs::Taking::after_lines_end, crate::proofs::Taking::after_lines_in_comment, crate::proofs::Taking::after_lines_blank, crate::proofs::Taking::after_lines_line, crate::proofs::Taking::after_lines_comment, crate::proofs::Taking::after_lines_stop))]
+fn from_first_line(bytes: &[u8]) -> &[u8]
+    ensures { result.now ≡ after_lines false bytes.now }
+{
+    let mut rest = bytes;
+    let mut in_comment = false;
+    while let Some((byte, after)) = rest.split_first() {
+        if in_comment {
+            in_comment = *byte != b'\n';
+        } else if !is_blank(*byte, after) && *byte != b'\n' {
+            if *byte != b'#' {
+                return rest;
+            }
+            in_comment = true;
         }
         rest = after;
     }
