@@ -1,6 +1,8 @@
 pub mod CheckedSteps
 pub mod CoefficientLists
 pub mod DivisionSteps
+pub mod ModularSteps
+pub mod VariablePolynomial
 pub mod LiftedPolynomials
 pub mod PolynomialShapes
 pub mod PolynomialValues

@@ -11,3 +11,8 @@ pub mod Levels
 pub mod GroundLaws
 pub mod Laws
 pub mod Tower
+pub mod Modular
+pub mod Runs
+pub mod Items
+pub mod Accessors
+pub mod Parts

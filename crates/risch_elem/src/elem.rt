@@ -10,12 +10,12 @@ use risch_frac::Frac;
 use std::alloc::{AllocError, Global};
 use std::marker::Model;
 
-type Nest = Over<Over<Over<Over<Over<Frac>>>>>;
+pub(crate) type Nest = Over<Over<Over<Over<Over<Frac>>>>>;
 
 /// An element of the tower.
 #[derive(Drop)]
 pub struct Elem {
-    inner: Nest,
+    pub(crate) inner: Nest,
 }
 
 impl Model for Elem {
@@ -27,7 +27,7 @@ impl Model for Elem {
 }
 
 /// The answer for the nest as the answer for the element.
-fn wrapped(answer: Result<Nest, Fail>) -> Result<Elem, Fail>
+pub(crate) fn wrapped(answer: Result<Nest, Fail>) -> Result<Elem, Fail>
     ensures { result ≡ answer }
 {
     match answer {

@@ -16,8 +16,8 @@ use std::marker::Model;
 /// n/m, where n and m have together the weight 65536 at most.
 #[derive(Drop)]
 pub struct Ratio<E: Arith> {
-    num: Poly<E>,
-    den: Poly<E>,
+    pub(crate) num: Poly<E>,
+    pub(crate) den: Poly<E>,
 }
 
 impl<E: Arith> Model for Ratio<E> {
@@ -62,8 +62,10 @@ fn quotient<E: Arith>(num: Poly<E>, den: Poly<E>) -> Result<Over<E>, Fail>
 }
 
 /// n/m for coprime n and m, m monic: an element of E where m = 1 and n is constant.
+///
+/// Stops: Size where its weight is above 65536.
 #[tactic(auto, using(crate::proofs::CheckedSteps::stop_passes, crate::proofs::CheckedSteps::value_passes), unfolding(crate::specs::Over::element))]
-fn element<E: Arith>(num: Poly<E>, den: Poly<E>) -> Result<Over<E>, Fail>
+pub fn element<E: Arith>(num: Poly<E>, den: Poly<E>) -> Result<Over<E>, Fail>
     ensures { Agrees result (spec.element E.ops num den) }
 {
     if den.is_one() && num.is_constant() {
@@ -105,12 +107,10 @@ fn scaled<E: Arith>(alloc: Global, num: Poly<E>, den: Poly<E>) -> Result<(Poly<E
 }
 
 /// The normal form of n/m: without the common divisor of n and m, and with a monic denominator.
+///
+/// Stops: those of the common divisor, of the divisions by it and of 1/lc(m); Size where the weight is above 65536.
 #[tactic(auto, using(crate::proofs::CheckedSteps::stop_passes, crate::proofs::CheckedSteps::value_passes), unfolding(crate::specs::Over::normal_form))]
-pub(crate) fn normal_form<E: Arith>(
-    alloc: Global,
-    num: Poly<E>,
-    den: Poly<E>,
-) -> Result<Over<E>, Fail>
+pub fn normal_form<E: Arith>(alloc: Global, num: Poly<E>, den: Poly<E>) -> Result<Over<E>, Fail>
     ensures { Agrees result (spec.normal_form E.ops num den) }
 {
     if num.is_zero() {
@@ -282,6 +282,13 @@ impl<E: Arith> Ratio<E> {
         ensures { result.now ≡ self.now.0 }
     {
         &self.num
+    }
+
+    /// m.
+    pub fn den(&self) -> &Poly<E>
+        ensures { result.now ≡ self.now.1 }
+    {
+        &self.den
     }
 
     /// n/m once more.

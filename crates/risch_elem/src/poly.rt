@@ -17,6 +17,9 @@ use crate::division::divide;
 use std::alloc::{AllocError, Global};
 use std::marker::Model;
 
+/// The largest degree of a polynomial.
+pub const MOST_DEGREE: u16 = 255;
+
 /// The polynomial p_0 + p_1·t + .. + p_n·t^n with p_n other than 0, of degree at most 255 and weight at most 65536. The list is
 /// empty for 0.
 ///
@@ -111,7 +114,7 @@ impl<E: Arith> Poly<E> {
         if value.is_zero() {
             return Ok(Poly::zero(alloc));
         }
-        if exponent > 255 {
+        if exponent > MOST_DEGREE {
             return Err(Fail::Size);
         }
         let mut coefficients = zeros(alloc, usize::from(exponent))?;
@@ -127,7 +130,7 @@ impl<E: Arith> Poly<E> {
     {
         let mut coefficients = coefficients;
         trim(&mut coefficients);
-        if coefficients.len() > 256 {
+        if coefficients.len() > usize::from(MOST_DEGREE) + 1 {
             return Err(Fail::Size);
         }
         let weight = weigh(&coefficients);
@@ -270,7 +273,7 @@ impl<E: Arith> Poly<E> {
         if left.is_empty() || right.is_empty() {
             return Ok(Poly::zero(alloc));
         }
-        if left.len() + right.len() > 257 {
+        if left.len() + right.len() > usize::from(MOST_DEGREE) + 2 {
             return Err(Fail::Size);
         }
         let mut sums = zeros(alloc, left.len() + right.len() - 1)?;

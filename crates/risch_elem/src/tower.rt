@@ -50,7 +50,7 @@ fn push_lowered<E: Arith>(
 }
 
 /// e, as an element of the field below; one that does not lie there gives 0.
-fn lowered_element<E: Arith>(alloc: Global, element: &Over<E>) -> Result<E, AllocError>
+pub(crate) fn lowered_element<E: Arith>(alloc: Global, element: &Over<E>) -> Result<E, AllocError>
     ensures { IfOk result (λ it. it ≡ spec.lowered_element E.ops element.now) }
 {
     match element {

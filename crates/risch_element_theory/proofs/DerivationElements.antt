@@ -16,8 +16,8 @@ use Rattle.risch_elem.specs.declared.over.Over.TheVariants.{Below, Quotient}
 use Rattle.risch_elem.proofs.CheckedSteps.{and_then-ok}
 use Rattle.risch_elem.proofs.PolynomialShapes as Shapes
 use Rattle.risch_elem.proofs.PolynomialValues as Values
-use Rattle.risch_element_theory.specs.Derivation as rules
-use Rattle.risch_element_theory.specs.Derivation.{Rate}
+use Rattle.risch_tower.specs.Derivation as rules
+use Rattle.risch_tower.specs.declared.rate.Rate.{Rate}
 use Rattle.risch_element_theory.specs.DerivationMeaning.{Derives, IsRate}
 use Rattle.risch_element_theory.specs.PolynomialMeaning.{IsKept}
 use Rattle.risch_element_theory.specs.ElementMeaning.{IsBelow, valid_over, meaning_over}

@@ -16,8 +16,10 @@ use Rattle.risch_elem.specs.Meaning.{Interprets, AllValid, value}
 use Rattle.risch_elem.proofs.CheckedSteps.{and_then-ok}
 use Rattle.risch_elem.proofs.PolynomialShapes as Shapes
 use Rattle.risch_elem.proofs.PolynomialValues as Values
-use Rattle.risch_element_theory.specs.Derivation as rules
-use Rattle.risch_element_theory.specs.Derivation.{Kind, primitive, exponential, Rate}
+use Rattle.risch_tower.specs.Derivation as rules
+use Rattle.risch_tower.specs.declared.rate.Kind.{Kind}
+use Rattle.risch_tower.specs.declared.rate.Kind.TheVariants.{Primitive, Exponential}
+use Rattle.risch_tower.specs.declared.rate.Rate.{Rate}
 use Rattle.risch_element_theory.specs.DerivationMeaning.{HasRate, Derives, IsRate}
 
 pub derive_polynomial-polynomial : {E : Type 0} (o : Ops E) (rule : E → Checked E) (rate : Rate E) (p r : List E) → rules.derive_polynomial o rule rate p ≡ Ok r → IsPolynomial o r (poly.weight o r)
@@ -56,7 +58,7 @@ module _ {E A : Type 0} {o : Ops E} {R : CommRing A} {valid : E → Type 0} {mea
 
   -- ⟦η⟧
   abbrev η : A
-  η = meaning rate.η
+  η = meaning rate.eta
 
   -- ---- one coefficient
   -- (n·η)·c
@@ -72,16 +74,16 @@ module _ {E A : Type 0} {o : Ops E} {R : CommRing A} {valid : E → Type 0} {mea
         means = h.product-means (o.whole n) c d (h.whole-valid n within) v e ∙ ap (λ m. m ⊗ meaning c) (h.whole-means n within);
       }
 
-  times_rate-stands : (n : ℕ) (c d : E) → n < 2 ^ 16 → valid c → rules.times_rate o rule rate n c ≡ Ok d → Stands valid meaning d (of_nat R n ⊗ η ⊗ meaning c)
+  times_rate-stands : (n : ℕ) (c d : E) → n < 2 ^ 16 → valid c → rules.times_rate o rate n c ≡ Ok d → Stands valid meaning d (of_nat R n ⊗ η ⊗ meaning c)
   times_rate-stands n c d within v e = by_zero (o.is_zero c) refl e
     where
-      by_zero : (z : Bool) → o.is_zero c ≡ z → (if z then Ok o.zero else and_then (poly.multiple o n rate.η) (λ m. o.product m c)) ≡ Ok d → Stands valid meaning d (of_nat R n ⊗ η ⊗ meaning c)
+      by_zero : (z : Bool) → o.is_zero c ≡ z → (if z then Ok o.zero else and_then (poly.multiple o n rate.eta) (λ m. o.product m c)) ≡ Ok d → Stands valid meaning d (of_nat R n ⊗ η ⊗ meaning c)
       by_zero true z e =
           let is : o.zero ≡ d = cc in
           record { is_valid = subst valid is h.zero-valid; means = ap meaning (sym is) ∙ h.zero-means ∙ sym (ap (λ m. of_nat R n ⊗ η ⊗ m) (h.zero_is c v z) ∙ Laws.mul-zero R (of_nat R n ⊗ η)) }
       by_zero false z e =
-          let m = and_then-ok (poly.multiple o n rate.η) (λ m. o.product m c) d e in
-          let s = multiple-stands n rate.η m.value within is_rate.rate-valid m.is in
+          let m = and_then-ok (poly.multiple o n rate.eta) (λ m. o.product m c) d e in
+          let s = multiple-stands n rate.eta m.value within is_rate.rate-valid m.is in
           record {
             is_valid = h.product-valid m.value c d s.is_valid v m.next;
             means = h.product-means m.value c d s.is_valid v m.next ∙ ap (λ m. m ⊗ meaning c) s.means;
@@ -89,19 +91,19 @@ module _ {E A : Type 0} {o : Ops E} {R : CommRing A} {valid : E → Type 0} {mea
 
   -- what the variable adds at exponent j
   abbrev term : Kind → ℕ → E → List E → A
-  term primitive j c after = of_nat R (j + 1) ⊗ η ⊗ meaning (poly.coefficient o after 0)
-  term exponential j c after = of_nat R j ⊗ η ⊗ meaning c
+  term Primitive j c after = of_nat R (j + 1) ⊗ η ⊗ meaning (poly.coefficient o after 0)
+  term Exponential j c after = of_nat R j ⊗ η ⊗ meaning c
 
-  variable_term-stands : (k : Kind) (j : ℕ) (c : E) (after : List E) (d : E) → j + 1 < 2 ^ 16 → valid c → AllValid valid after → rules.variable_term o rule rate k j c after ≡ Ok d →
+  variable_term-stands : (k : Kind) (j : ℕ) (c : E) (after : List E) (d : E) → j + 1 < 2 ^ 16 → valid c → AllValid valid after → rules.variable_term o rate k j c after ≡ Ok d →
       Stands valid meaning d (term k j c after)
-  variable_term-stands primitive j c after d within v all e = times_rate-stands (j + 1) (poly.coefficient o after 0) d within (Values.coefficient-valid h after 0 all) e
-  variable_term-stands exponential j c after d within v all e = times_rate-stands j c d (omega arith) v e
+  variable_term-stands Primitive j c after d within v all e = times_rate-stands (j + 1) (poly.coefficient o after 0) d within (Values.coefficient-valid h after 0 all) e
+  variable_term-stands Exponential j c after d within v all e = times_rate-stands j c d (omega arith) v e
 
   coefficient-stands : (j : ℕ) (c : E) (after : List E) (s : E) → j + 1 < 2 ^ 16 → valid c → AllValid valid after → rules.coefficient_derivative o rule rate j c after ≡ Ok s →
       Stands valid meaning s (D.derive (meaning c) ⊕ term rate.kind j c after)
   coefficient-stands j c after s within v all e =
-      let d = and_then-ok (rule c) (λ d. and_then (rules.variable_term o rule rate rate.kind j c after) (λ f. o.sum d f)) s e in
-      let f = and_then-ok (rules.variable_term o rule rate rate.kind j c after) (λ f. o.sum d.value f) s d.next in
+      let d = and_then-ok (rule c) (λ d. and_then (rules.variable_term o rate rate.kind j c after) (λ f. o.sum d f)) s e in
+      let f = and_then-ok (rules.variable_term o rate rate.kind j c after) (λ f. o.sum d.value f) s d.next in
       let added = variable_term-stands rate.kind j c after f.value within v all f.is in
       let derived = derives.derived-valid c d.value v d.is in
       record {
@@ -112,8 +114,8 @@ module _ {E A : Type 0} {o : Ops E} {R : CommRing A} {valid : E → Type 0} {mea
   -- ---- the coefficients from exponent j on
   -- how far their value is from the derivative of p(t)
   abbrev excess : Kind → ℕ → List E → A
-  excess primitive j p = of_nat R j ⊗ η ⊗ at (drop 1 p)
-  excess exponential j p = of_nat R j ⊗ η ⊗ at p
+  excess Primitive j p = of_nat R j ⊗ η ⊗ at (drop 1 p)
+  excess Exponential j p = of_nat R j ⊗ η ⊗ at p
 
   -- p(t) = p_0 + t·(p_1 + p_2·t + ..)
   at-split : (p : List E) → at p ≡ meaning (poly.coefficient o p 0) ⊕ t ⊗ at (drop 1 p)
@@ -138,7 +140,7 @@ module _ {E A : Type 0} {o : Ops E} {R : CommRing A} {valid : E → Type 0} {mea
   -- one exponent more
   excess-next : (k : Kind) → HasRate D k η t → (j : ℕ) (c : E) (p : List E) →
       D.derive (meaning c) ⊕ term k j c p ⊕ t ⊗ (D.derive (at p) ⊕ excess k (j + 1) p) ≡ D.derive (at (c ∷ p)) ⊕ excess k j (c ∷ p)
-  excess-next primitive has j c p =
+  excess-next Primitive has j c p =
       ap (λ n. D.derive (meaning c) ⊕ n ⊗ η ⊗ meaning (poly.coefficient o p 0) ⊕ t ⊗ (D.derive (at p) ⊕ n ⊗ η ⊗ at (drop 1 p))) (of_nat-next j)
       ∙ collect (D.derive (meaning c)) (of_nat R j) η (meaning (poly.coefficient o p 0)) (at (drop 1 p)) t (D.derive (at p))
       ∙ ap (λ v. D.derive (meaning c) ⊕ (η ⊗ v ⊕ t ⊗ D.derive (at p)) ⊕ of_nat R j ⊗ η ⊗ v) (sym (at-split p))
@@ -146,7 +148,7 @@ module _ {E A : Type 0} {o : Ops E} {R : CommRing A} {valid : E → Type 0} {mea
     where
       collect : (a n e x y t w : A) → a ⊕ (𝟙 ⊕ n) ⊗ e ⊗ x ⊕ t ⊗ (w ⊕ (𝟙 ⊕ n) ⊗ e ⊗ y) ≡ a ⊕ (e ⊗ (x ⊕ t ⊗ y) ⊕ t ⊗ w) ⊕ n ⊗ e ⊗ (x ⊕ t ⊗ y)
       collect a n e x y t w = ring R (a ∷ n ∷ e ∷ x ∷ y ∷ t ∷ w ∷ []) (search reading depth 40 fits 8000) refl
-  excess-next exponential has j c p =
+  excess-next Exponential has j c p =
       ap (λ n. D.derive (meaning c) ⊕ of_nat R j ⊗ η ⊗ meaning c ⊕ t ⊗ (D.derive (at p) ⊕ n ⊗ η ⊗ at p)) (of_nat-next j)
       ∙ collect (D.derive (meaning c)) (of_nat R j) η (meaning c) (at p) t (D.derive (at p))
       ∙ ap (λ v. v ⊕ of_nat R j ⊗ η ⊗ at (c ∷ p)) (sym (derive-cons c p ∙ ap (λ d. D.derive (meaning c) ⊕ (d ⊗ at p ⊕ t ⊗ D.derive (at p))) has))
@@ -156,13 +158,13 @@ module _ {E A : Type 0} {o : Ops E} {R : CommRing A} {valid : E → Type 0} {mea
 
   -- the zero polynomial
   excess-nil : (k : Kind) (j : ℕ) → at [] ≡ D.derive (at []) ⊕ excess k j []
-  excess-nil primitive j = nothing (of_nat R j) η ∙ ap (λ d. d ⊕ of_nat R j ⊗ η ⊗ 𝟘) (sym (Derivations.derive-zero D))
-  excess-nil exponential j = nothing (of_nat R j) η ∙ ap (λ d. d ⊕ of_nat R j ⊗ η ⊗ 𝟘) (sym (Derivations.derive-zero D))
+  excess-nil Primitive j = nothing (of_nat R j) η ∙ ap (λ d. d ⊕ of_nat R j ⊗ η ⊗ 𝟘) (sym (Derivations.derive-zero D))
+  excess-nil Exponential j = nothing (of_nat R j) η ∙ ap (λ d. d ⊕ of_nat R j ⊗ η ⊗ 𝟘) (sym (Derivations.derive-zero D))
 
   -- from exponent 0 on nothing is left
   excess-zero : (k : Kind) (p : List E) → D.derive (at p) ⊕ excess k 0 p ≡ D.derive (at p)
-  excess-zero primitive p = ap (λ n. D.derive (at p) ⊕ n ⊗ η ⊗ at (drop 1 p)) (Laws.of_nat-zero R) ∙ none (D.derive (at p)) η (at (drop 1 p))
-  excess-zero exponential p = ap (λ n. D.derive (at p) ⊕ n ⊗ η ⊗ at p) (Laws.of_nat-zero R) ∙ none (D.derive (at p)) η (at p)
+  excess-zero Primitive p = ap (λ n. D.derive (at p) ⊕ n ⊗ η ⊗ at (drop 1 p)) (Laws.of_nat-zero R) ∙ none (D.derive (at p)) η (at (drop 1 p))
+  excess-zero Exponential p = ap (λ n. D.derive (at p) ⊕ n ⊗ η ⊗ at p) (Laws.of_nat-zero R) ∙ none (D.derive (at p)) η (at p)
 
   derivatives_onto-extends : (formed : List E) (j : ℕ) (p r : List E) → j + length p < 2 ^ 16 → AllValid valid p → rules.derivatives_onto o rule rate formed j p ≡ Ok r →
       Extends valid at formed r (D.derive (at p) ⊕ excess rate.kind j p)

@@ -20,7 +20,9 @@ use Rattle.risch_elem.specs.FractionMeaning.{fraction_meaning}
 use Rattle.risch_elem.specs.Ground.{ground}
 use Rattle.risch_elem.specs.Levels.{Field, field}
 use Rattle.risch_elem.proofs.FractionValues.{ground_means, fraction-rational}
-use Rattle.risch_element_theory.specs.Derivation.{Kind, primitive, exponential, Rates, derive}
+use Rattle.risch_tower.specs.Derivation.{Rates, derive}
+use Rattle.risch_tower.specs.declared.rate.Kind.{Kind}
+use Rattle.risch_tower.specs.declared.rate.Kind.TheVariants.{Primitive, Exponential}
 use Rattle.risch_element_theory.specs.DerivationMeaning.{HasRate, IsRate, Derives, kind_with, AreRatesOf}
 use Rattle.risch_element_theory.specs.LevelMeaning.{valid_at, meaning_at}
 use Rattle.risch_element_theory.proofs.DerivationElements.{derive_over-means}
@@ -32,11 +34,11 @@ derivation_in tower = record { derive = derive_in tower; derive-add = derive-add
 
 -- ---- the rates
 kind-has_rate : (tower : Tower) (kind : Kind) (η t : Element) → derive_in tower t ≡ value_at elements.ring t (derivative_of (kind_with kind η)) → HasRate (derivation_in tower) kind η t
-kind-has_rate tower primitive η t e = e ∙ constant_value t η
+kind-has_rate tower Primitive η t e = e ∙ constant_value t η
   where
     constant_value : (t η : Element) → add η (mul t Element.zero) ≡ η
     constant_value t η = ring elements.ring (t ∷ η ∷ []) (search reading depth 20) refl
-kind-has_rate tower exponential η t e = e ∙ linear_value t η
+kind-has_rate tower Exponential η t e = e ∙ linear_value t η
   where
     linear_value : (t η : Element) → add Element.zero (mul t (add η (mul t Element.zero))) ≡ mul η t
     linear_value t η = ring elements.ring (t ∷ η ∷ []) (search reading depth 30 fits 4000) refl
@@ -46,7 +48,7 @@ is_rate : (tower : Tower) → IsTower tower → (height : ℕ) (rates : Rates (s
     IsRate (derivation_in tower) (valid_at height) (meaning_at height) rates.1 (variable height)
 is_rate tower h height rates within are = record {
   rate-valid = are.1;
-  rate-means = kind-has_rate tower rates.1.kind (meaning_at height rates.1.η) (variable height)
+  rate-means = kind-has_rate tower rates.1.kind (meaning_at height rates.1.eta) (variable height)
       (kind_is tower height within h ∙ ap (λ k. value_at elements.ring (variable height) (derivative_of k)) (sym are.2));
 }
 
@@ -83,20 +85,20 @@ derive-means tower h height rates within are e f v is =
 
 -- ---- the rates of a tower
 -- Dx = 1
-pub rates-x : (tower : Tower) → AreRatesOf tower 1 (tt, record { kind = primitive; η = ground.one })
+pub rates-x : (tower : Tower) → AreRatesOf tower 1 (tt, record { kind = Primitive; eta = ground.one })
 rates-x tower = (tt, ground_means.one-valid, ap towers.primitive ground_means.one-means)
 
 module _ (tower : Tower) (h : IsTower tower) (height : ℕ) (rates : Rates height) (within : height ≤ length tower) (are : AreRatesOf tower height rates) (a : Field height) (v : valid_at height a) where
-  -- η = Da for t = exp a
+  -- eta = Da for t = exp a
   pub rates-exp : (η : Field height) → kind_of tower height ≡ kind_by tower (exp (meaning_at height a)) → derive height rates a ≡ Ok η →
-      AreRatesOf tower (suc height) (rates, record { kind = exponential; η = η })
+      AreRatesOf tower (suc height) (rates, record { kind = Exponential; eta = η })
   rates-exp η k e =
       let d = derive-means tower h height rates (omega arith) are a η v e in
       (are, d.0, ap towers.exponential d.1 ∙ sym k)
 
-  -- η = Da/a for t = log a
+  -- eta = Da/a for t = log a
   pub rates-log : (d η : Field height) → kind_of tower height ≡ kind_by tower (log (meaning_at height a)) → derive height rates a ≡ Ok d → (field height).is_zero a ≡ false → (field height).quotient d a ≡ Ok η →
-      AreRatesOf tower (suc height) (rates, record { kind = primitive; η = η })
+      AreRatesOf tower (suc height) (rates, record { kind = Primitive; eta = η })
   rates-log d η k e some f =
       let s = derive-means tower h height rates (omega arith) are a d v e in
       let q = (level_means height).quotient-means d a η s.0 v some f in

@@ -12,7 +12,6 @@ pub mod ElementsProducts
 pub mod ElementsUniqueness
 pub mod Elements
 pub mod Levels
-mod DerivationExamples
 pub mod DerivationPolynomials
 pub mod DerivationElements
 pub mod DerivationTower

@@ -14,7 +14,7 @@ use Rattle.risch_elem.specs.Meaning.{Interprets}
 use Rattle.risch_elem.proofs.CheckedSteps.{and_then-ok}
 use Rattle.risch_element_theory.specs.PolynomialMeaning.{polynomial_of, IsKept, KeepsPolynomial}
 use Rattle.risch_element_theory.specs.ModularMeaning.{KeepsInverse, KeepsSolution, InverseMeans, SolutionMeans}
-use Rattle.risch_element_theory.specs.ModularRules as modular
+use Rattle.risch_elem.specs.Modular as modular
 use Rattle.risch_element_theory.proofs.DivisionValues as DivisionValues
 use Rattle.risch_element_theory.proofs.DivisionRule as DivisionRule
 use Rattle.risch_element_theory.proofs.GcdRule as GcdRule

@@ -5,19 +5,22 @@ use Rattle.risch_mean.specs.Element.{Element}
 use Rattle.risch_mean.specs.Tower as towers
 use Rattle.risch_mean.specs.Tower.{Tower, kind_of}
 use Rattle.risch_elem.specs.Checked.{Checked}
-use Rattle.risch_element_theory.specs.Derivation.{Kind, primitive, exponential, Rate, Rates}
+use Rattle.risch_tower.specs.Derivation.{Rates}
+use Rattle.risch_tower.specs.declared.rate.Kind.{Kind}
+use Rattle.risch_tower.specs.declared.rate.Kind.TheVariants.{Primitive, Exponential}
+use Rattle.risch_tower.specs.declared.rate.Rate.{Rate}
 use Rattle.risch_element_theory.specs.LevelMeaning.{valid_at, meaning_at}
 
 -- ---- a field and its derivation D
 -- Dt = η, or Dt = η·t
 abbrev pub HasRate : {A : Type 0} {R : CommRing A} → Derivation R → Kind → A → A → Type 0
-HasRate D primitive η t = D.derive t ≡ η
-HasRate {R = R} D exponential η t = D.derive t ≡ R.mul η t
+HasRate D Primitive η t = D.derive t ≡ η
+HasRate {R = R} D Exponential η t = D.derive t ≡ R.mul η t
 
 -- η is valid, and Dt = ⟦η⟧ or Dt = ⟦η⟧·t
 pub record IsRate {E A : Type 0} {R : CommRing A} (D : Derivation R) (valid : E → Type 0) (meaning : E → A) (rate : Rate E) (t : A) : Type 0 where
-  pub rate-valid : valid rate.η
-  pub rate-means : HasRate D rate.kind (meaning rate.η) t
+  pub rate-valid : valid rate.eta
+  pub rate-means : HasRate D rate.kind (meaning rate.eta) t
 
 -- where the rule gives a value for a valid element e, it is valid and stands for D⟦e⟧
 pub record Derives {E A : Type 0} {R : CommRing A} (D : Derivation R) (valid : E → Type 0) (meaning : E → A) (rule : E → Checked E) : Type 0 where
@@ -27,11 +30,11 @@ pub record Derives {E A : Type 0} {R : CommRing A} (D : Derivation R) (valid : E
 -- ---- towers
 -- the kind of a level, with the element that η stands for
 abbrev pub kind_with : Kind → Element → towers.Kind
-kind_with primitive η = towers.primitive η
-kind_with exponential η = towers.exponential η
+kind_with Primitive η = towers.primitive η
+kind_with Exponential η = towers.exponential η
 
 -- the rates are those of the tower's levels: Dx = 1, Dt = Da/a for t = log a, Dt = Da·t for t = exp a
 abbrev pub AreRatesOf : Tower → (height : ℕ) → Rates height → Type 0
 AreRatesOf tower zero rates = Unit {0}
 AreRatesOf tower (suc height) rates =
-    AreRatesOf tower height rates.0 × valid_at height rates.1.η × (kind_with rates.1.kind (meaning_at height rates.1.η) ≡ kind_of tower height)
+    AreRatesOf tower height rates.0 × valid_at height rates.1.eta × (kind_with rates.1.kind (meaning_at height rates.1.eta) ≡ kind_of tower height)

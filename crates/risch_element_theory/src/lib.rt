@@ -2,9 +2,9 @@
 //! The calls do nothing: each contract states a law, so that the check of this crate proves it.
 //!
 //! What a reader must believe stands in specs/: a list of coefficients p, each of which stands for an element of a field K, stands for the polynomial ⟦p⟧ = p_0 + p_1·t + .. of K[t], and is kept where its last coefficient is not 0 (PolynomialMeaning);
-//! the rules of the inverse modulo a polynomial and of b·r + a·z = c (ModularRules), and what they mean (ModularMeaning);
+//! what the rules of the inverse modulo a polynomial and of b·r + a·z = c mean (ModularMeaning; the rules stand in risch_elem's Modular);
 //! what the elements of a level stand for and which are valid (ElementMeaning), and those of every height (LevelMeaning);
-//! the rule by which the elements of a tower are derived (Derivation), and what it says that it derives them (DerivationMeaning).
+//! what it says that the rule of risch_tower's Derivation derives the elements of a tower (DerivationMeaning).
 //!
 //! The main theorems: the rules form sums, products, multiples and derivatives (`sum-polynomial`, `product-polynomial`, `scaled-polynomial`, `negatives-polynomial`, `monomial-polynomial`, `partial-polynomial`),
 //! kept lists have the size of their polynomial and are determined by it (`size-polynomial_of`, `polynomial_of-injective`), the rule of division gives quotient and remainder (`division-is_division`), the quotient by a divisor is exact (`quo-exact`),
@@ -15,7 +15,7 @@
 //!
 //! The rule of the derivation is the derivation: of polynomials (`derive_polynomial-means`), of the elements of a level (`derive_over-means`), and of those of a tower, where D is that of risch_mean (`derive-means`).
 //!
-//! Not proved: that code computes the modular rules and the derivation, which no code does yet.
+//! Not proved here: that code computes these rules. The contracts of risch_elem and risch_tower say so, rule by rule, of their calls; the laws here are about the rules, for valid elements.
 #![tactic(auto)]
 
 ghost use Rattle.std.specs.Prelude.{◌≡◌, ◌↔◌, ℕ, suc, true, Ok, List, [], ◌∷◌, ◌≤◌, length};
@@ -24,7 +24,7 @@ ghost use Rattle.risch_mean.specs.ElementField.{elements};
 ghost use Rattle.risch_elem.specs.Levels.{Field, field};
 ghost use Rattle.risch_elem.specs.Meaning.{Interprets};
 ghost use Rattle.risch_elem.specs.Poly as poly;
-ghost use Rattle.risch_element_theory.specs.Derivation.{Rates, derive};
+ghost use Rattle.risch_tower.specs.Derivation.{Rates, derive};
 ghost use Rattle.risch_element_theory.specs.DerivationMeaning.{AreRatesOf};
 ghost use Rattle.risch_element_theory.specs.LevelMeaning.{meaning_at, valid_at};
 ghost use Rattle.risch_mean.specs.Tower.{IsTower, Tower, derive_in};

@@ -9,7 +9,8 @@ use Rattle.risch_elem.specs.Over as level
 use Rattle.risch_elem.specs.Levels.{Field}
 use Rattle.risch_elem.specs.declared.Fail.TheVariants.{Overflow}
 use Rattle.risch_elem.specs.declared.over.Over.TheVariants.{Below, Quotient}
-use Rattle.risch_element_theory.specs.Derivation.{primitive, exponential, Rates, derive, derive_polynomial, derive_quotient, quotient_numerator}
+use Rattle.risch_tower.specs.declared.rate.Kind.TheVariants.{Primitive, Exponential}
+use Rattle.risch_tower.specs.Derivation.{Rates, derive, derive_polynomial, derive_quotient, quotient_numerator}
 
 -- the whole number z
 abbrev whole : ℤ → Fraction
@@ -33,15 +34,15 @@ polynomial p = Quotient (p, below (pos 1) ∷ [])
 
 -- Dx = 1
 abbrev with_x : Rates 1
-with_x = (tt, record { kind = primitive; η = whole (pos 1) })
+with_x = (tt, record { kind = Primitive; eta = whole (pos 1) })
 
 -- Dt1 = 2·x·t1
 abbrev with_exp : Rates 2
-with_exp = (with_x, record { kind = exponential; η = times_x (pos 2) })
+with_exp = (with_x, record { kind = Exponential; eta = times_x (pos 2) })
 
 -- Dt1 = 1/x
 abbrev with_log : Rates 2
-with_log = (with_x, record { kind = primitive; η = by_x (pos 1) })
+with_log = (with_x, record { kind = Primitive; eta = by_x (pos 1) })
 
 -- ---- in Q(x)
 -- D(3) = 0

@@ -8,31 +8,27 @@ use Rattle.risch_elem.specs.Over as level
 use Rattle.risch_elem.specs.Levels.{Field, field}
 use Rattle.risch_elem.specs.declared.over.Over.{Over}
 use Rattle.risch_elem.specs.declared.over.Over.TheVariants.{Below, Quotient}
+use Rattle.risch_tower.specs.declared.rate.Kind.{Kind}
+use Rattle.risch_tower.specs.declared.rate.Kind.TheVariants.{Primitive, Exponential}
+use Rattle.risch_tower.specs.declared.rate.Rate.{Rate}
+use Rattle.risch_frac.specs.Fraction.{Fraction}
 
--- how the variable t of a level is derived: Dt = η, or Dt = η·t
-pub data Kind : Type 0 where
-  primitive : Kind
-  exponential : Kind
-
--- the kind of the level over E, and η
-pub record Rate (E : Type 0) : Type 0 where
-  pub kind : Kind
-  pub η : E
-
--- D is the derivation of the field E below the level
-module _ {E : Type 0} (o : Ops E) (D : E → Checked E) (rate : Rate E) where
+-- t is the variable of the level over E
+module _ {E : Type 0} (o : Ops E) (rate : Rate E) where
   -- (n·η)·c; where c is 0 nothing is formed
   abbrev pub times_rate : ℕ → E → Checked E
-  times_rate n c = if o.is_zero c then Ok o.zero else and_then (poly.multiple o n rate.η) (λ m. o.product m c)
+  times_rate n c = if o.is_zero c then Ok o.zero else and_then (poly.multiple o n rate.eta) (λ m. o.product m c)
 
   -- the coefficient of Dt·dp/dt at exponent j, for c = p_j and the coefficients after it: ((j + 1)·η)·p_(j + 1) where Dt = η, and (j·η)·p_j where Dt = η·t
   abbrev pub variable_term : Kind → ℕ → E → List E → Checked E
-  variable_term primitive j c after = times_rate (j + 1) (poly.coefficient o after 0)
-  variable_term exponential j c after = times_rate j c
+  variable_term Primitive j c after = times_rate (j + 1) (poly.coefficient o after 0)
+  variable_term Exponential j c after = times_rate j c
 
+-- D is the derivation of the field E below the level
+module _ {E : Type 0} (o : Ops E) (D : E → Checked E) (rate : Rate E) where
   -- the coefficient of Dp at exponent j: D(p_j), and that of Dt·dp/dt
   abbrev pub coefficient_derivative : ℕ → E → List E → Checked E
-  coefficient_derivative j c after = and_then (D c) (λ d. and_then (variable_term rate.kind j c after) (λ e. o.sum d e))
+  coefficient_derivative j c after = and_then (D c) (λ d. and_then (variable_term o rate rate.kind j c after) (λ e. o.sum d e))
 
   -- the coefficients of Dp from exponent j on, exponents ascending, after those that are formed
   abbrev pub derivatives_onto : List E → ℕ → List E → Checked (List E)
@@ -65,6 +61,10 @@ module _ {E : Type 0} (o : Ops E) (D : E → Checked E) (rate : Rate E) where
   derive_over (Below e) = map_ok Below (D e)
   derive_over (Quotient r) = derive_quotient r.0 r.1
 
+-- D of a fraction
+abbrev pub derive_ground : Unit {0} → Fraction → Checked Fraction
+derive_ground rates e = Ok ground.zero
+
 -- the kinds of the levels and their η, each an element of the field below
 abbrev pub Rates : ℕ → Type 0
 Rates zero = Unit {0}
@@ -72,5 +72,5 @@ Rates (suc height) = Rates height × Rate (Field height)
 
 -- De in the field of this height
 abbrev pub derive : (height : ℕ) → Rates height → Field height → Checked (Field height)
-derive zero rates e = Ok ground.zero
+derive zero rates e = derive_ground rates e
 derive (suc height) rates e = derive_over (field height) (derive height rates.0) rates.1 e

@@ -1,0 +1,5 @@
+use Rattle.std.proofs.Common.{◌≡◌, ◌++◌, take}
+use Rattle.risch_elem.proofs.parts.push_unwrapped.Given as goal
+
+abbrev pub invariant-loop-item : goal.invariant-loop-item
+invariant-loop-item l = l.to.items ≡ l.fn.to.items ++ take l.item-index l.from

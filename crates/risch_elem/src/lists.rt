@@ -1,0 +1,87 @@
+//! Lists of fractions, elements and polynomials.
+
+ghost use Rattle.std.specs.Prelude.{◌≡◌, [], ◌∷◌, ◌++◌, length, OnOk, OnErr, option_to_list};
+ghost use Rattle.std.specs.Borrow.{sem, Lends, Array};
+ghost use Rattle.risch_elem.specs.contracts.lists.Items.{the_row};
+ghost use Rattle.risch_elem.specs.Items.{with_items};
+
+use crate::elem::Elem;
+use crate::poly::Poly;
+use risch_frac::Frac;
+use std::alloc::{AllocError, Global};
+use std::marker::Model;
+
+/// A list.
+#[derive(Drop)]
+pub struct Items<T: Drop> {
+    items: Vec<T>,
+}
+
+/// A list of fractions.
+pub type FracList = Items<Frac>;
+
+/// A list of elements.
+pub type ElemList = Items<Elem>;
+
+/// A list of polynomials over the tower.
+pub type PolyList = Items<Poly<Elem>>;
+
+impl<T: Drop> Model for Items<T> {
+    ghost use Rattle.std.specs.Prelude.{List};
+    ghost use Rattle.std.specs.Coded.{coded_list};
+
+    ghost Value = { List T };
+
+    ghost coded = { coded_list T.code };
+
+    ghost view = { λ list. list.items.items };
+}
+
+impl<T: Drop> Items<T> {
+    /// The empty list.
+    pub fn new(alloc: Global) -> Items<T>
+        ensures { result ≡ [] }
+    {
+        Items {
+            items: Vec::new(alloc),
+        }
+    }
+
+    /// Appends an item. Where memory is wanting the list is as before.
+    pub fn push(&mut self, item: T) -> Result<(), AllocError>
+        ensures ok { OnOk result (self.new ≡ self.old ++ item ∷ []) }
+        ensures err { OnErr result (self.new ≡ self.old) }
+    {
+        self.items.push(item)?;
+        Ok(())
+    }
+
+    /// Takes the last item off.
+    pub fn pop(&mut self) -> Option<T>
+        ensures { self.old ≡ self.new ++ option_to_list result }
+    {
+        self.items.pop()
+    }
+
+    /// How many items there are.
+    pub fn len(&self) -> usize
+        ensures { result ≡ length self.now }
+    {
+        self.items.len()
+    }
+
+    /// The items.
+    pub fn as_slice(&self) -> &[T]
+        ensures { result.now ≡ self.now }
+    {
+        self.items.as_slice()
+    }
+
+    /// The items, to be changed.
+    pub fn as_mut_slice(&mut self) -> &mut [T]
+        ensures* writes_back { sem 𝓛 (Lends (the_row T.row) (Array T.row 0) self.entry result (with_items self.old)) }
+        ensures value { result.now ≡ self.old }
+    {
+        self.items.as_mut_slice()
+    }
+}

@@ -1,0 +1,3 @@
+pub mod DerivationExamples
+pub mod RefusalSteps
+pub mod SameLevels
