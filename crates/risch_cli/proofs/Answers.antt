@@ -5,7 +5,7 @@ use Rattle.std.specs.Prelude.{codes, cond}
 use Rattle.std.specs.Io.KnownBytes.{Appends}
 use Rattle.risch_frac.specs.Fraction.{Fraction}
 use Rattle.risch_io.specs.Whole.{IsAllOf}
-use Rattle.risch_elem.specs.Checked.{Checked}
+use Rattle.risch_field.specs.Checked.{Checked}
 use Rattle.risch_mean.specs.Element.{Element}
 use Rattle.risch_mean.specs.Written.{Expression, written_value}
 use Rattle.risch_mean.specs.Answer.{IsIntegral}

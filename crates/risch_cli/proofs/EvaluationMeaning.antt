@@ -12,11 +12,11 @@ use Rattle.risch_mean.specs.ElementField.{elements, ◌^ₑ◌}
 use Rattle.risch_mean.specs.ElementLaws.{same_is}
 use Rattle.risch_mean.proofs.IntegerLaws.{integer-ne-zero}
 use Rattle.risch_mean.specs.Written.{Expression, number, name, negated, sum, difference, product, quotient, power, of_one, of_two, written_value}
-use Rattle.risch_elem.specs.Checked.{Checked, and_then, map_ok}
-use Rattle.risch_elem.specs.Ground.{ground}
-use Rattle.risch_elem.specs.Poly as poly
-use Rattle.risch_elem.specs.FractionMeaning.{fraction_meaning}
-use Rattle.risch_elem.proofs.CheckedSteps.{and_then-ok}
+use Rattle.risch_field.specs.Checked.{Checked, and_then, map_ok}
+use Rattle.risch_field.specs.Ground.{ground}
+use Rattle.risch_polynomial.specs.Poly as poly
+use Rattle.risch_polynomial_theory.specs.FractionMeaning.{fraction_meaning}
+use Rattle.risch_field.proofs.CheckedSteps.{and_then-ok}
 use Rattle.risch_cli.specs.declared.program.Operation.TheVariants.{Sum, Difference, Product, Quotient}
 use Rattle.risch_cli.specs.Evaluation.{constant, the_variable, divided, operate, power_of, evaluate}
 use Rattle.risch_cli.specs.File.{is_served, is_divisor}

@@ -1,7 +1,7 @@
 -- The steps of an expression leave its value on the stack.
 use Rattle.std.proofs.Common.{◌≡◌, ℕ, List, [], ◌∷◌, ◌++◌, refl, sym, ap, ◌∙◌, append_assoc, append-nil, Result, Ok, Err}
 use Rattle.risch_frac.specs.Fraction.{Fraction}
-use Rattle.risch_elem.specs.Checked.{Checked, and_then, map_ok}
+use Rattle.risch_field.specs.Checked.{Checked, and_then, map_ok}
 use Rattle.risch_mean.specs.Written.{Expression, number, name, negated, sum, difference, product, quotient, power}
 use Rattle.risch_cli.specs.declared.program.Operation.{Operation}
 use Rattle.risch_cli.specs.declared.program.Operation.TheVariants.{Sum, Difference, Product, Quotient}
@@ -9,8 +9,8 @@ use Rattle.risch_cli.specs.declared.program.Step.{Step}
 use Rattle.risch_cli.specs.declared.program.Step.TheVariants.{Number, Variable, Negated, Joined, Raised}
 use Rattle.risch_cli.specs.Program.{steps}
 use Rattle.risch_cli.specs.Evaluation.{evaluate, operate, power_of, put, apply, run, top, result_of}
-use Rattle.risch_elem.specs.Poly as poly
-use Rattle.risch_elem.specs.Ground.{ground}
+use Rattle.risch_polynomial.specs.Poly as poly
+use Rattle.risch_field.specs.Ground.{ground}
 
 abbrev Stack : Type 0
 Stack = List (List Fraction)

@@ -1,11 +1,11 @@
 -- The loop over the terms of the integrand, from the highest exponent down: what is left to add.
 use Rattle.std.proofs.Common.{◌≡◌, ℕ, zero, suc, ◌+◌, ◌-◌, ◌<◌, ◌≤◌, List, [], length, Ok, Err, refl, sym, ap, ◌∙◌, arith}
 use Rattle.risch_frac.specs.Fraction.{Fraction}
-use Rattle.risch_elem.specs.Checked.{Checked, and_then, IsStopOf}
-use Rattle.risch_elem.specs.Ground.{ground}
-use Rattle.risch_elem.specs.Poly as poly
-use Rattle.risch_elem.specs.declared.Fail.{Fail}
-use Rattle.risch_elem.proofs.CheckedSteps.{stop_passes}
+use Rattle.risch_field.specs.Checked.{Checked, and_then, IsStopOf}
+use Rattle.risch_field.specs.Ground.{ground}
+use Rattle.risch_polynomial.specs.Poly as poly
+use Rattle.risch_field.specs.declared.Fail.{Fail}
+use Rattle.risch_field.proofs.CheckedSteps.{stop_passes}
 use Rattle.risch_cli.specs.Procedure.{with_term, with_terms, branch}
 
 pub terms_begin : (f piece : List Fraction) → piece ≡ [] → branch f ≡ with_terms f (length f) piece

@@ -1,11 +1,11 @@
 -- The loop of a power: what is left to multiply.
 use Rattle.std.proofs.Common.{◌≡◌, ℕ, zero, suc, ◌+◌, ◌-◌, ◌<◌, ◌≤◌, List, Ok, Err, refl, sym, ap, ◌∙◌, arith}
 use Rattle.risch_frac.specs.Fraction.{Fraction}
-use Rattle.risch_elem.specs.Checked.{Checked, and_then, IsStopOf}
-use Rattle.risch_elem.specs.Ground.{ground}
-use Rattle.risch_elem.specs.Poly as poly
-use Rattle.risch_elem.specs.declared.Fail.{Fail}
-use Rattle.risch_elem.proofs.CheckedSteps.{stop_passes}
+use Rattle.risch_field.specs.Checked.{Checked, and_then, IsStopOf}
+use Rattle.risch_field.specs.Ground.{ground}
+use Rattle.risch_polynomial.specs.Poly as poly
+use Rattle.risch_field.specs.declared.Fail.{Fail}
+use Rattle.risch_field.proofs.CheckedSteps.{stop_passes}
 use Rattle.risch_cli.specs.Evaluation.{multiplied, power_of}
 
 pub power_begin : (p v : List Fraction) (n : ℕ) → 0 < n → v ≡ p → power_of p n ≡ multiplied v p (n - 1)

@@ -12,16 +12,16 @@ use Rattle.risch_mean.specs.Univariate.{value_at, formal_derivative}
 use Rattle.risch_mean.specs.Tower.{derive_in}
 use Rattle.risch_mean.specs.Answer.{IsIntegral}
 use Rattle.risch_mean.proofs.RationalPolynomials.{derive-rational_polynomial, rational_polynomial_in_tower}
-use Rattle.risch_elem.specs.Checked.{Checked, and_then}
-use Rattle.risch_elem.specs.Ground.{ground}
-use Rattle.risch_elem.specs.Poly as poly
-use Rattle.risch_elem.specs.Meaning.{AllValid, HasValue, value}
-use Rattle.risch_elem.specs.FractionMeaning.{fraction_meaning}
-use Rattle.risch_elem.specs.declared.Fail.TheVariants.{Size}
-use Rattle.risch_elem.proofs.CheckedSteps.{and_then-ok}
-use Rattle.risch_elem.proofs.FractionValues.{ground_means, fractions-rational}
-use Rattle.risch_elem.proofs.PolynomialShapes as Shapes
-use Rattle.risch_elem.proofs.PolynomialValues as Values
+use Rattle.risch_field.specs.Checked.{Checked, and_then}
+use Rattle.risch_field.specs.Ground.{ground}
+use Rattle.risch_polynomial.specs.Poly as poly
+use Rattle.risch_polynomial_theory.specs.Meaning.{AllValid, HasValue, value}
+use Rattle.risch_polynomial_theory.specs.FractionMeaning.{fraction_meaning}
+use Rattle.risch_field.specs.declared.Fail.TheVariants.{Size}
+use Rattle.risch_field.proofs.CheckedSteps.{and_then-ok}
+use Rattle.risch_polynomial_theory.proofs.FractionValues.{ground_means, fractions-rational}
+use Rattle.risch_polynomial_theory.proofs.PolynomialShapes as Shapes
+use Rattle.risch_polynomial_theory.proofs.PolynomialValues as Values
 use Rattle.risch_cli.specs.declared.procedure.Outcome.{Outcome}
 use Rattle.risch_cli.specs.declared.procedure.Outcome.TheVariants.{Integral, Stopped, Disagree}
 use Rattle.risch_cli.specs.Procedure.{integral_of_term, with_term, with_terms, branch, compared, checked, gathered, answer}

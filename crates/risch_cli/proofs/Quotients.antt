@@ -3,10 +3,10 @@ use Rattle.std.proofs.Common.{◌≡◌, ℕ, ◌≤◌, ◌<◌, List, length, 
 use Rattle.std.specs.Prelude.{nat_le, true, false}
 use Rattle.std.proofs.lemmas.Bool.{le-leb, lt-leb, cond-true, cond-false}
 use Rattle.risch_frac.specs.Fraction.{Fraction}
-use Rattle.risch_elem.specs.Checked.{Checked, Agrees, map_ok}
-use Rattle.risch_elem.specs.Ground.{ground}
-use Rattle.risch_elem.specs.Poly as poly
-use Rattle.risch_elem.specs.declared.Fail.{Fail}
+use Rattle.risch_field.specs.Checked.{Checked, Agrees, map_ok}
+use Rattle.risch_field.specs.Ground.{ground}
+use Rattle.risch_polynomial.specs.Poly as poly
+use Rattle.risch_field.specs.declared.Fail.{Fail}
 use Rattle.risch_cli.specs.Evaluation.{constant, the_variable, by_inverse, divided}
 
 -- x is the monomial with the coefficient 1

@@ -2,10 +2,10 @@
 use Rattle.std.proofs.Common.{◌≡◌, ℕ, suc, ◌+◌, ◌<◌, ◌≤◌, List, [], ◌∷◌, length, drop, get_or, Ok, Err, refl, sym, ap, ◌∙◌, arith, drop-cons, add-one}
 use Rattle.std.proofs.lemmas.List.{drop_all}
 use Rattle.risch_frac.specs.Fraction.{Fraction}
-use Rattle.risch_elem.specs.Checked.{Checked, Agrees, and_then, map_ok, IsStopOf}
-use Rattle.risch_elem.specs.declared.Fail.{Fail}
-use Rattle.risch_elem.specs.declared.Fail.TheVariants.{Overflow, Size, Memory}
-use Rattle.risch_elem.proofs.CheckedSteps.{stop_passes}
+use Rattle.risch_field.specs.Checked.{Checked, Agrees, and_then, map_ok, IsStopOf}
+use Rattle.risch_field.specs.declared.Fail.{Fail}
+use Rattle.risch_field.specs.declared.Fail.TheVariants.{Overflow, Size, Memory}
+use Rattle.risch_field.proofs.CheckedSteps.{stop_passes}
 use Rattle.risch_cli.specs.declared.program.Step.{Step}
 use Rattle.risch_cli.specs.Evaluation.{apply, run, top, result_of}
 

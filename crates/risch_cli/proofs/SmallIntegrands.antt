@@ -4,13 +4,14 @@ use Rattle.std.proofs.Common.{◌≡◌, ℕ, zero, suc, ◌+◌, ◌≤◌, Boo
 use Rattle.std.proofs.lemmas.Bool.{le-leb}
 use Rattle.risch_frac.specs.Fraction.{Fraction, IsLowest, is_zero, whole}
 use Rattle.risch_frac.proofs.Units.{whole-is_lowest, sum-zero_left}
-use Rattle.risch_elem.specs.Checked.{and_then}
-use Rattle.risch_elem.specs.Ground.{ground, overflowing}
-use Rattle.risch_elem.specs.Poly as poly
-use Rattle.risch_elem.specs.Meaning.{AllValid}
-use Rattle.risch_elem.proofs.FractionValues.{ground_means}
-use Rattle.risch_elem.proofs.CoefficientLists.{trimmed-trimmed}
-use Rattle.risch_elem.proofs.PolynomialValues.{coefficient-valid, same_if}
+use Rattle.risch_field.specs.Checked.{and_then}
+use Rattle.risch_field.specs.Ground.{ground, overflowing}
+use Rattle.risch_polynomial.specs.Poly as poly
+use Rattle.risch_polynomial_theory.specs.Meaning.{AllValid}
+use Rattle.risch_polynomial_theory.proofs.FractionValues.{ground_means}
+use Rattle.risch_polynomial_theory.proofs.Monomials.{formed-small, sum_onto-nil}
+use Rattle.risch_polynomial.proofs.CoefficientLists.{trimmed-trimmed}
+use Rattle.risch_polynomial_theory.proofs.PolynomialValues.{coefficient-valid, same_if}
 use Rattle.risch_cli.specs.declared.procedure.Outcome.TheVariants.{Integral, Disagree}
 use Rattle.risch_cli.specs.Procedure.{integral_of_term, with_term, with_terms, branch, checked, gathered, answer}
 use Rattle.risch_cli.specs.Meaning.{IsSmall}
@@ -72,27 +73,6 @@ length-trimmed [] = omega arith
 length-trimmed (c ∷ p) = let others = length-trimmed p in let first = length-leading c (poly.trimmed ground p) in omega arith
 
 -- ---- few coefficients have a small weight
-weight_in-small : (c : Fraction) → poly.weight_in ground c ≤ 1
-weight_in-small c = by_test (is_zero c)
-  where
-    by_test : (b : Bool) → (if b then 0 else 1) ≤ 1
-    by_test true = omega arith
-    by_test false = omega arith
-
-weight_from-small : (a : ℕ) (p : List Fraction) → fold (λ w c. w + poly.weight_in ground c) a p ≤ a + length p
-weight_from-small a [] = omega arith
-weight_from-small a (c ∷ p) = let one = weight_in-small c in let others = weight_from-small (a + poly.weight_in ground c) p in omega arith
-
-sized-small : (p : List Fraction) → length p ≤ 256 → poly.sized ground p ≡ Ok p
-sized-small p small =
-    let bound = weight_from-small 0 p in
-    let degree : nat_le (length p) 256 ≡ true = le-leb (length p) 256 small in
-    let weight : nat_le (poly.weight ground p) 65536 ≡ true = le-leb (poly.weight ground p) 65536 (omega arith) in
-    rw (degree, weight) refl
-
-formed-small : (p q : List Fraction) → poly.trimmed ground p ≡ q → length q ≤ 256 → poly.sized ground (poly.trimmed ground p) ≡ Ok q
-formed-small p q t small = ap (poly.sized ground) t ∙ sized-small q small
-
 formed-placed : (n : ℕ) (c : Fraction) (p : List Fraction) → poly.trimmed ground p ≡ p → is_zero c ≡ false → n + 1 + length p ≤ 256 →
     poly.sized ground (poly.trimmed ground (placed n c p)) ≡ Ok (placed n c p)
 formed-placed n c p t nonzero small = let long = length-placed n c p in formed-small (placed n c p) (placed n c p) (trimmed-placed n c p t nonzero) (omega arith)
@@ -104,10 +84,6 @@ monomial-placed n c nonzero small =
     let degree : nat_le n 255 ≡ true = le-leb n 255 small in
     rw (nonzero, degree) (formed-placed n c [] refl nonzero (omega arith))
 
-sum_onto-nil : (formed p : List Fraction) → poly.sum_onto ground formed p [] ≡ Ok (formed ++ p)
-sum_onto-nil formed [] = refl
-sum_onto-nil formed (c ∷ p) = refl
-
 zero-plus : (c : Fraction) → IsLowest c → ground.sum (whole 0) c ≡ Ok c
 zero-plus c l = ap overflowing (sum-zero_left c l)
 
@@ -115,7 +91,7 @@ zero-plus c l = ap overflowing (sum-zero_left c l)
 sum_onto-placed : (formed : List Fraction) (n : ℕ) (c : Fraction) (p : List Fraction) → IsLowest c →
     poly.sum_onto ground formed (placed n (whole 0) p) (placed n c []) ≡ Ok (formed ++ placed n c p)
 sum_onto-placed formed zero c p l =
-    ap (λ x. and_then x (λ s. poly.sum_onto ground (formed ++ s ∷ []) p [])) (zero-plus c l) ∙ sum_onto-nil (formed ++ c ∷ []) p ∙ ap Ok (append_assoc formed (c ∷ []) p)
+    ap (λ x. and_then x (λ s. poly.sum_onto ground (formed ++ s ∷ []) p [])) (zero-plus c l) ∙ sum_onto-nil ground (formed ++ c ∷ []) p ∙ ap Ok (append_assoc formed (c ∷ []) p)
 sum_onto-placed formed (suc n) c p l =
     ap (λ x. and_then x (λ s. poly.sum_onto ground (formed ++ s ∷ []) (placed n (whole 0) p) (placed n c []))) (zero-plus (whole 0) (whole-is_lowest 0 (omega arith)))
     ∙ sum_onto-placed (formed ++ whole 0 ∷ []) n c p l ∙ ap Ok (append_assoc formed (whole 0 ∷ []) (placed n c p))

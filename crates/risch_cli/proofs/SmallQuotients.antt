@@ -8,11 +8,11 @@ use Rattle.risch_frac.specs.Fraction as fraction
 use Rattle.risch_frac.specs.Fraction.{Fraction, IsLowest, is_zero, whole}
 use Rattle.risch_frac.proofs.Multiples.{ratio-small, product-small, undone}
 use Rattle.risch_frac.proofs.Units.{whole-is_lowest, product-zero_right}
-use Rattle.risch_elem.specs.Checked.{and_then}
-use Rattle.risch_elem.specs.Ground.{ground, overflowing}
-use Rattle.risch_elem.specs.Poly as poly
-use Rattle.risch_elem.specs.Meaning.{AllValid}
-use Rattle.risch_elem.proofs.FractionValues.{ground_means}
+use Rattle.risch_field.specs.Checked.{and_then}
+use Rattle.risch_field.specs.Ground.{ground, overflowing}
+use Rattle.risch_polynomial.specs.Poly as poly
+use Rattle.risch_polynomial_theory.specs.Meaning.{AllValid}
+use Rattle.risch_polynomial_theory.proofs.FractionValues.{ground_means}
 use Rattle.risch_cli.specs.Meaning.{IsSmallFraction}
 
 -- r = c/n, as the rules form it

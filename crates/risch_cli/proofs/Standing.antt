@@ -12,18 +12,18 @@ use Rattle.risch_mean.specs.ElementFieldLaws.{mul-one, one-ne-zero, mul_assoc}
 use Rattle.risch_mean.specs.ElementLaws.{over-mul, mul_cancel}
 use Rattle.risch_mean.proofs.IntegerLaws.{integer-one}
 use Rattle.risch_mean.proofs.PowerLaws.{power-zero, power-suc}
-use Rattle.risch_elem.specs.Checked.{Checked, and_then, map_ok}
-use Rattle.risch_elem.specs.Ground.{ground}
-use Rattle.risch_elem.specs.Poly as poly
-use Rattle.risch_elem.specs.GroundLaws.{ground_keeps_negatives}
-use Rattle.risch_elem.specs.Laws.{trimmed-negatives, weight-negatives}
-use Rattle.risch_elem.specs.Meaning.{AllValid, HasValue, value}
-use Rattle.risch_elem.specs.Polynomial.{IsPolynomial}
-use Rattle.risch_elem.specs.FractionMeaning.{fraction_meaning}
-use Rattle.risch_elem.proofs.CheckedSteps.{and_then-ok}
-use Rattle.risch_elem.proofs.FractionValues.{ground_means}
-use Rattle.risch_elem.proofs.PolynomialShapes as Shapes
-use Rattle.risch_elem.proofs.PolynomialValues as Values
+use Rattle.risch_field.specs.Checked.{Checked, and_then, map_ok}
+use Rattle.risch_field.specs.Ground.{ground}
+use Rattle.risch_polynomial.specs.Poly as poly
+use Rattle.risch_field.specs.GroundLaws.{ground_keeps_negatives}
+use Rattle.risch_polynomial.specs.Negatives.{trimmed-negatives, weight-negatives}
+use Rattle.risch_polynomial_theory.specs.Meaning.{AllValid, HasValue, value}
+use Rattle.risch_polynomial.specs.Polynomial.{IsPolynomial}
+use Rattle.risch_polynomial_theory.specs.FractionMeaning.{fraction_meaning}
+use Rattle.risch_field.proofs.CheckedSteps.{and_then-ok}
+use Rattle.risch_polynomial_theory.proofs.FractionValues.{ground_means}
+use Rattle.risch_polynomial_theory.proofs.PolynomialShapes as Shapes
+use Rattle.risch_polynomial_theory.proofs.PolynomialValues as Values
 use Rattle.risch_cli.specs.Evaluation.{constant, the_variable, by_inverse, divided, multiplied, power_of}
 
 -- ⟦p_0⟧ + ⟦p_1⟧·x + ..

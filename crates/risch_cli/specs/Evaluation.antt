@@ -2,9 +2,9 @@
 -- coefficients from exponent 0.
 use Rattle.std.specs.Prelude.{ℕ, zero, suc, Bool, cond, nat_le, List, [], ◌∷◌, length, Ok}
 use Rattle.risch_frac.specs.Fraction.{Fraction, is_zero, whole}
-use Rattle.risch_elem.specs.Checked.{Checked, and_then, map_ok}
-use Rattle.risch_elem.specs.Ground.{ground}
-use Rattle.risch_elem.specs.Poly as poly
+use Rattle.risch_field.specs.Checked.{Checked, and_then, map_ok}
+use Rattle.risch_field.specs.Ground.{ground}
+use Rattle.risch_polynomial.specs.Poly as poly
 use Rattle.risch_mean.specs.Written.{Expression, number, name, negated, sum, difference, product, quotient, power}
 use Rattle.risch_cli.specs.declared.program.Operation.{Operation}
 use Rattle.risch_cli.specs.declared.program.Operation.TheVariants.{Sum, Difference, Product, Quotient}

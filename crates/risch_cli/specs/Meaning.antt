@@ -2,7 +2,7 @@
 use Rattle.std.specs.Prelude.{◌≡◌, ℕ, ◌≤◌, ◌<◌, ◌^◌, unsigned_abs, List, [], length, map}
 use Rattle.std.specs.List.{All}
 use Rattle.risch_frac.specs.Fraction.{Fraction}
-use Rattle.risch_elem.specs.FractionMeaning.{fraction_meaning}
+use Rattle.risch_polynomial_theory.specs.FractionMeaning.{fraction_meaning}
 use Rattle.risch_mean.specs.Element.{Element, variable}
 use Rattle.risch_mean.specs.ElementField.{elements}
 use Rattle.risch_mean.specs.Univariate.{value_at}

@@ -2,11 +2,11 @@
 -- is Dy = c - λ on the ground, whose first solution is λ = c, y = 0.
 use Rattle.std.specs.Prelude.{ℕ, zero, suc, ◌+◌, cond, List, [], length, Ok, Err}
 use Rattle.risch_frac.specs.Fraction.{Fraction, is_zero}
-use Rattle.risch_elem.specs.Checked.{Checked, and_then}
-use Rattle.risch_elem.specs.Ground.{ground}
-use Rattle.risch_elem.specs.Poly as poly
-use Rattle.risch_elem.specs.declared.Fail.{Fail}
-use Rattle.risch_elem.specs.declared.Fail.TheVariants.{Overflow as FailOverflow, Size as FailSize, Memory}
+use Rattle.risch_field.specs.Checked.{Checked, and_then}
+use Rattle.risch_field.specs.Ground.{ground}
+use Rattle.risch_polynomial.specs.Poly as poly
+use Rattle.risch_field.specs.declared.Fail.{Fail}
+use Rattle.risch_field.specs.declared.Fail.TheVariants.{Overflow as FailOverflow, Size as FailSize, Memory}
 use Rattle.risch_cli.specs.declared.stop.Stop.{Stop}
 use Rattle.risch_cli.specs.declared.stop.Stop.TheVariants.{Overflow, Size}
 use Rattle.risch_cli.specs.declared.stop.Stage.{Stage}

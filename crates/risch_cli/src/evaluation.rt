@@ -2,15 +2,16 @@
 ghost use Rattle.std.specs.Prelude.{◌≡◌, ◌≤◌, ◌<◌, [], ◌∷◌, length, IfOk, OnOk, OnErr, MatchOption};
 ghost use Rattle.risch_frac.specs.Fraction.{is_zero};
 ghost use Rattle.risch_mean.specs.Written.{Expression};
-ghost use Rattle.risch_elem.specs.Checked.{Agrees, AgreesWith, map_ok};
-ghost use Rattle.risch_elem.specs.Ground.{ground};
-ghost use Rattle.risch_elem.specs.Poly as poly;
+ghost use Rattle.risch_field.specs.Checked.{Agrees, AgreesWith, map_ok};
+ghost use Rattle.risch_field.specs.Ground.{ground};
+ghost use Rattle.risch_polynomial.specs.Poly as poly;
 ghost use Rattle.risch_cli.specs.Evaluation as spec;
 ghost use Rattle.risch_cli.specs.Program.{steps};
 
 use crate::program::{Operation, Step};
-use risch_elem::{Arith, Fail, Poly};
+use risch_field::{Arith, Fail};
 use risch_frac::Frac;
+use risch_polynomial::Poly;
 use std::alloc::{AllocError, Global};
 use std::marker::Model;
 
@@ -149,7 +150,7 @@ fn divided_number(alloc: Global, value: Frac, divisor: Frac) -> Result<Poly<Frac
 }
 
 /// p scaled by 1/c.
-#[tactic(auto, using(risch_elem::proofs::CheckedSteps::stop_passes, risch_elem::proofs::CheckedSteps::value_passes))]
+#[tactic(auto, using(risch_field::proofs::CheckedSteps::stop_passes, risch_field::proofs::CheckedSteps::value_passes))]
 fn divided_polynomial(alloc: Global, value: &Poly<Frac>, divisor: Frac) -> Result<Poly<Frac>, Fail>
     ensures { Agrees result (spec.by_inverse value.now divisor) }
 {

@@ -1,13 +1,14 @@
 // The integral of a polynomial in x (Bronstein, section 5.8 at the level of x, where each asked equation is one on the rational numbers).
 ghost use Rattle.std.specs.Prelude.{◌≡◌, ◌≤◌, IfOk};
-ghost use Rattle.risch_elem.specs.Checked.{Agrees};
-ghost use Rattle.risch_elem.specs.Ground.{ground};
-ghost use Rattle.risch_elem.specs.Poly as poly;
+ghost use Rattle.risch_field.specs.Checked.{Agrees};
+ghost use Rattle.risch_field.specs.Ground.{ground};
+ghost use Rattle.risch_polynomial.specs.Poly as poly;
 ghost use Rattle.risch_cli.specs.Procedure as spec;
 
 use crate::stop::{Stage, Stop};
-use risch_elem::{Arith, Fail, Poly};
+use risch_field::{Arith, Fail};
 use risch_frac::Frac;
+use risch_polynomial::Poly;
 use std::alloc::{AllocError, Global};
 
 /// What the procedure answers.
@@ -92,7 +93,7 @@ fn with_term(
 }
 
 /// c/(e + 1)·x^(e + 1).
-#[tactic(auto, using(risch_elem::proofs::CheckedSteps::stop_passes, risch_elem::proofs::CheckedSteps::value_passes), unfolding(crate::specs::Procedure::integral_of_term))]
+#[tactic(auto, using(risch_field::proofs::CheckedSteps::stop_passes, risch_field::proofs::CheckedSteps::value_passes), unfolding(crate::specs::Procedure::integral_of_term))]
 fn integral_of_term(alloc: Global, coefficient: Frac, exponent: u16) -> Result<Poly<Frac>, Fail>
     requires { exponent ≤ 255 }
     ensures { Agrees result (spec.integral_of_term coefficient exponent) }

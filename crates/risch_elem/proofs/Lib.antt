@@ -1,11 +1,1 @@
-pub mod CheckedSteps
-pub mod CoefficientLists
-pub mod DivisionSteps
-pub mod ModularSteps
-pub mod VariablePolynomial
-pub mod LiftedPolynomials
-pub mod PolynomialShapes
-pub mod PolynomialValues
-pub mod FractionValues
-pub mod Monomials
-pub mod Derivatives
+pub mod LevelsOfElements

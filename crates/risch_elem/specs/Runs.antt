@@ -1,5 +1,5 @@
 -- The answers of a call that counts units.
-use Rattle.std.specs.Prelude.{◌≡◌}
+use Rattle.std.specs.Prelude.{◌≡◌, ℕ, ◌+◌, ◌-◌, ◌^◌, ◌≤◌, min, max}
 use Rattle.risch_elem.specs.declared.units.Stop.TheVariants.{Budget}
 use Rattle.risch_elem.specs.declared.units.Run.{Run}
 use Rattle.risch_elem.specs.declared.units.Run.TheVariants.{Done, Stopped, Left, Memory}
@@ -35,3 +35,7 @@ IsUnitAnswer (Done t) = Unit {0}
 IsUnitAnswer (Stopped stop) = stop ≡ Budget
 IsUnitAnswer Left = Unit {0}
 IsUnitAnswer Memory = ⊥
+
+-- a count that rose; one that stands at the last number of 64 bits serves too, and it never falls
+abbrev pub Rose : ℕ → ℕ → Type 0
+Rose before now = max before (min (before + 1) (2 ^ 64 - 1)) ≤ now

@@ -6,7 +6,7 @@ ghost use Rattle.risch_elem.specs.contracts.lists.Items.{the_row};
 ghost use Rattle.risch_elem.specs.Items.{with_items};
 
 use crate::elem::Elem;
-use crate::poly::Poly;
+use crate::polynomial::Poly;
 use risch_frac::Frac;
 use std::alloc::{AllocError, Global};
 use std::marker::Model;
@@ -24,7 +24,7 @@ pub type FracList = Items<Frac>;
 pub type ElemList = Items<Elem>;
 
 /// A list of polynomials over the tower.
-pub type PolyList = Items<Poly<Elem>>;
+pub type PolyList = Items<Poly>;
 
 impl<T: Drop> Model for Items<T> {
     ghost use Rattle.std.specs.Prelude.{List};
@@ -75,6 +75,13 @@ impl<T: Drop> Items<T> {
         ensures { result.now ≡ self.now }
     {
         self.items.as_slice()
+    }
+
+    /// The items, of a list that is given away.
+    pub(crate) fn into_vec(self) -> Vec<T>
+        ensures { result.items ≡ self }
+    {
+        self.items
     }
 
     /// The items, to be changed.

@@ -1,94 +1,159 @@
-//! Numerators, denominators and quotients in the tower.
+//! Numerators, denominators and quotients of elements at a level of the tower.
 
-ghost use Rattle.std.specs.Prelude.{◌≡◌, ◌++◌, ◌<◌, ◌-◌, IfOk, OnOk};
-ghost use Rattle.risch_elem.specs.Checked.{Agrees};
-ghost use Rattle.risch_elem.specs.Parts as spec;
+ghost use Rattle.std.specs.Prelude.{◌≡◌, ◌++◌, ◌+◌, ◌-◌, ◌<◌, length, IfOk, OnOk};
+ghost use Rattle.risch_mean.specs.Element.{one, variable, ◌/ₑ◌};
+ghost use Rattle.risch_field.specs.Checked.{Agrees};
+ghost use Rattle.risch_polynomial.specs.Poly as poly;
+ghost use Rattle.risch_polynomial_theory.specs.Meaning.{AllValid};
+ghost use Rattle.risch_level.specs.Levels.{element};
+ghost use Rattle.risch_level.specs.Parts.{levels, denominator};
+ghost use Rattle.risch_element_theory.specs.WholeTower.{IsElement, IsPolynomial, meaning, value_of, Within, AllWithin};
 
-use crate::Fail;
-use crate::arith::Arith;
-use crate::denominator::Denominator;
-use crate::elem::{Elem, Nest, wrapped};
-use crate::poly::Poly;
-use crate::tower::Tower;
+use crate::elem::{Elem, Nest};
+use crate::polynomial::Poly;
+use risch_field::{Arith, Fail};
+use risch_level::{Denominator, Tower};
 use std::alloc::{AllocError, Global};
 
 /// Appends p_0, p_1, .. as elements of the tower.
+#[tactic(auto, using(risch_element_theory::proofs::PartsRules::items))]
 fn push_wrapped(alloc: Global, to: &mut Vec<Elem>, from: &[Nest]) -> Result<(), AllocError>
+    requires { AllValid IsElement from.now }
     ensures { OnOk result (to.new.items ≡ to.old.items ++ from.now) }
 {
     for item in from {
         let inner = item.copy(alloc)?;
-        to.push(Elem { inner })?;
+        to.push(Elem::of(inner))?;
     }
     Ok(())
 }
 
 /// The same polynomial over the elements of the tower.
-#[tactic(auto, unfolding(crate::specs::Levels::element))]
-fn wrapped_polynomial(alloc: Global, from: &Poly<Nest>) -> Result<Poly<Elem>, AllocError>
+#[tactic(auto, using(risch_element_theory::proofs::PartsRules::items), unfolding(risch_level::specs::Levels::element))]
+pub(crate) fn wrapped(
+    alloc: Global,
+    from: &risch_polynomial::Poly<Nest>,
+) -> Result<Poly, AllocError>
+    requires { IsPolynomial from.now }
     ensures { IfOk result (λ it. it ≡ from.now) }
 {
     let mut coefficients = Vec::new(alloc);
     push_wrapped(alloc, &mut coefficients, from.coefficients())?;
     let weight = from.kept_weight();
-    Ok(Poly::kept(coefficients, weight))
+    let inner = risch_polynomial::Poly::kept(coefficients, weight);
+    Ok(Poly::kept(inner))
 }
 
-/// Appends p_0, p_1, .. as nests of levels.
+/// Appends p_0, p_1, .. as elements of the field of five levels.
 fn push_unwrapped(alloc: Global, to: &mut Vec<Nest>, from: &[Elem]) -> Result<(), AllocError>
     ensures { OnOk result (to.new.items ≡ to.old.items ++ from.now) }
 {
     for item in from {
-        let copy = item.inner.copy(alloc)?;
+        let copy = item.nest().copy(alloc)?;
         to.push(copy)?;
     }
     Ok(())
 }
 
-/// The same polynomial over the nests of levels.
-#[tactic(auto, unfolding(crate::specs::Levels::element))]
-fn unwrapped_polynomial(alloc: Global, from: &Poly<Elem>) -> Result<Poly<Nest>, AllocError>
-    ensures { IfOk result (λ it. it ≡ from.now) }
+/// The same polynomial over the field of five levels.
+#[tactic(auto, unfolding(risch_level::specs::Levels::element))]
+pub(crate) fn unwrapped(
+    alloc: Global,
+    from: &Poly,
+) -> Result<risch_polynomial::Poly<Nest>, AllocError>
+    ensures value { IfOk result (λ it. it ≡ from.now) }
+    ensures normal { IsPolynomial from.now }
 {
     let mut coefficients = Vec::new(alloc);
-    push_unwrapped(alloc, &mut coefficients, from.coefficients())?;
-    let weight = from.kept_weight();
-    Ok(Poly::kept(coefficients, weight))
+    push_unwrapped(alloc, &mut coefficients, from.inner.coefficients())?;
+    let weight = from.inner.kept_weight();
+    Ok(risch_polynomial::Poly::kept(coefficients, weight))
+}
+
+/// The numerator at a level.
+#[tactic(auto, unfolding(risch_level::specs::Levels::element))]
+fn numerator_at(
+    alloc: Global,
+    nest: &Nest,
+    level: u8,
+) -> Result<risch_polynomial::Poly<Nest>, AllocError>
+    requires { level < 5 }
+    ensures { IfOk result (λ it. it ≡ (levels 5).numerator (4 - level) nest.now) }
+{
+    nest.numerator(alloc, 4 - level)
+}
+
+/// The denominator at a level.
+#[tactic(auto, unfolding(risch_level::specs::Levels::element))]
+fn denominator_at(
+    alloc: Global,
+    nest: &Nest,
+    level: u8,
+) -> Result<risch_polynomial::Poly<Nest>, AllocError>
+    requires { level < 5 }
+    ensures { IfOk result (λ it. it ≡ denominator 5 (4 - level) nest.now) }
+{
+    nest.denominator(alloc, 4 - level)
+}
+
+/// n/m at a level.
+#[tactic(auto, unfolding(risch_level::specs::Levels::element))]
+fn quotient_at(alloc: Global, level: u8, num: &Poly, den: &Poly) -> Result<Nest, Fail>
+    requires { level < 5 }
+    ensures { Agrees result ((levels 5).quotient (4 - level) num.now den.now) }
+{
+    let num = unwrapped(alloc, num)?;
+    let den = unwrapped(alloc, den)?;
+    Nest::quotient(alloc, 4 - level, &num, &den)
 }
 
 impl Elem {
     /// The numerator at a level, over the elements below it; 0 for an element above the level.
-    pub fn num_poly(&self, alloc: Global, level: u8) -> Result<Poly<Elem>, AllocError>
+    ///
+    /// `Err` for want of memory alone.
+    #[tactic(auto, using(risch_element_theory::proofs::PartsRules::numerators))]
+    pub fn num_poly(&self, alloc: Global, level: u8) -> Result<Poly, AllocError>
         requires { level < 5 }
-        ensures { IfOk result (λ it. it ≡ (spec.levels 5).numerator (4 - level) self.now) }
+        ensures rule { IfOk result (λ it. it ≡ (levels 5).numerator (4 - level) self.now) }
+        ensures meaning { Within (level + 1) self.now → IfOk result (λ it. meaning self.now ≡ value_of it (variable level) /ₑ value_of (denominator 5 (4 - level) self.now) (variable level)) }
+        ensures within { Within (level + 1) self.now → IfOk result (λ it. AllWithin level it) }
     {
-        let numerator = self.inner.numerator(alloc, 4 - level)?;
-        wrapped_polynomial(alloc, &numerator)
+        let numerator = numerator_at(alloc, &self.inner, level)?;
+        wrapped(alloc, &numerator)
     }
 
-    /// The denominator at a level, over the elements below it; 1 for an element above the level.
-    pub fn den_poly(&self, alloc: Global, level: u8) -> Result<Poly<Elem>, AllocError>
+    /// The denominator at a level, over the elements below it, which is monic; 1 for an element above the level.
+    ///
+    /// `Err` for want of memory alone.
+    #[tactic(auto, using(risch_element_theory::proofs::PartsRules::denominators))]
+    pub fn den_poly(&self, alloc: Global, level: u8) -> Result<Poly, AllocError>
         requires { level < 5 }
-        ensures { IfOk result (λ it. it ≡ spec.denominator 5 (4 - level) self.now) }
+        ensures rule { IfOk result (λ it. it ≡ denominator 5 (4 - level) self.now) }
+        ensures some { IfOk result (λ it. 0 < length it) }
+        ensures monic { IfOk result (λ it. meaning (poly.last element it) ≡ one) }
+        ensures meaning { Within (level + 1) self.now → IfOk result (λ it. meaning self.now ≡ value_of ((levels 5).numerator (4 - level) self.now) (variable level) /ₑ value_of it (variable level)) }
+        ensures within { Within (level + 1) self.now → IfOk result (λ it. AllWithin level it) }
     {
-        let denominator = self.inner.denominator(alloc, 4 - level)?;
-        wrapped_polynomial(alloc, &denominator)
+        let denominator = denominator_at(alloc, &self.inner, level)?;
+        wrapped(alloc, &denominator)
     }
 
     /// n/m at a level in normal form, for n and m over the elements below it and m other than 0.
     ///
     /// Stops: those of the normal form.
-    pub fn quotient(
-        alloc: Global,
-        level: u8,
-        num: &Poly<Elem>,
-        den: &Poly<Elem>,
-    ) -> Result<Elem, Fail>
-        requires { level < 5 }
-        ensures { Agrees result ((spec.levels 5).quotient (4 - level) num.now den.now) }
+    #[tactic(auto, using(risch_element_theory::proofs::PartsRules::quotients))]
+    pub fn quotient(alloc: Global, level: u8, num: &Poly, den: &Poly) -> Result<Elem, Fail>
+        requires level { level < 5 }
+        requires some { 0 < length den.now }
+        requires num_within { AllWithin level num.now }
+        requires den_within { AllWithin level den.now }
+        ensures rule { Agrees result ((levels 5).quotient (4 - level) num.now den.now) }
+        ensures meaning { IfOk result (λ it. meaning it ≡ value_of num.now (variable level) /ₑ value_of den.now (variable level)) }
+        ensures within { IfOk result (λ it. Within (level + 1) it) }
     {
-        let num = unwrapped_polynomial(alloc, num)?;
-        let den = unwrapped_polynomial(alloc, den)?;
-        wrapped(Nest::quotient(alloc, 4 - level, &num, &den))
+        num.known();
+        den.known();
+        let inner = quotient_at(alloc, level, num, den)?;
+        Ok(Elem::of(inner))
     }
 }

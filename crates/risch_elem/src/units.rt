@@ -1,7 +1,7 @@
 //! The units of a run, and the answers of calls that count them.
 
-ghost use Rattle.std.specs.Prelude.{◌≡◌, ◌≤◌, ◌<◌, ◌+◌, ◌↔◌, ℕ};
-ghost use Rattle.risch_elem.specs.Runs.{OnDone, OnLeft, OnReturn, IsBudget, IsUnitAnswer};
+ghost use Rattle.std.specs.Prelude.{◌≡◌, ◌≤◌, ◌+◌, ◌↔◌, ℕ};
+ghost use Rattle.risch_elem.specs.Runs.{OnDone, OnLeft, OnReturn, IsBudget, IsUnitAnswer, Rose};
 
 use crate::elem::Elem;
 use risch_frac::Op;
@@ -44,6 +44,8 @@ pub enum Run<T> {
 }
 
 /// A count of units up to a most, and a count of the leaves of the run. Neither count falls.
+///
+/// Where the run is left, the count of the leaves rises; once it is 2^64 - 1 or more, it may stay as it is.
 pub trait Units {
     /// The units so far.
     ghost units: { Self → ℕ };
@@ -60,11 +62,13 @@ pub trait Units {
     ghost kept: { Self → Self.Kept };
 
     /// One unit more.
+    ///
+    /// `Done(())` with one unit more; `Stopped(Stop::Budget)` exactly where units = most; `Left` where the run was left, with as many units or more. No other answer.
     fn unit(&mut self) -> Run<()>
         ensures answer { IsUnitAnswer result }
         ensures done { OnDone result (units self.new ≡ units self.old + 1) }
         ensures budget { IsBudget result ↔ (units self.old ≡ most self.old) }
-        ensures left { OnLeft result (leaves self.old < leaves self.new) }
+        ensures left { OnLeft result (Rose (leaves self.old) (leaves self.new)) }
         ensures not_left { OnReturn result (leaves self.new ≡ leaves self.old) }
         ensures units_grow { units self.old ≤ units self.new }
         ensures same_most { most self.new ≡ most self.old }
@@ -91,7 +95,7 @@ impl Counter {
         Counter { count: 0, most }
     }
 
-    /// The units so far.
+    /// The units so far, from 0 to the most.
     pub fn count(&self) -> u64
         ensures { result ≡ ⟦<Counter as Units>⟧.units self.now }
     {

@@ -1,56 +1,45 @@
 //! The variables of the tower: x and the monomials.
 
-ghost use Rattle.std.specs.Prelude.{◌≡◌, ◌∷◌, [], IfOk, IsTrue};
-ghost use Rattle.risch_elem.specs.Accessors as spec;
+ghost use Rattle.std.specs.Prelude.{◌≡◌, ◌<◌, ◌+◌, IfOk};
+ghost use Rattle.risch_mean.specs.Element as mean;
+ghost use Rattle.risch_level.specs.Accessors as spec;
+ghost use Rattle.risch_element_theory.specs.WholeTower.{meaning, Within};
 
-use crate::arith::Arith;
-use crate::elem::Elem;
-use crate::over::{Over, Ratio};
-use crate::poly::Poly;
+use crate::elem::{Elem, Nest};
 use risch_frac::Frac;
+use risch_level::{Over, variable};
 use std::alloc::{AllocError, Global};
 
-/// The polynomial t.
-#[tactic(auto, using(crate::proofs::VariablePolynomial::variable_is_polynomial))]
-fn own_polynomial<E: Arith>(alloc: Global) -> Result<Poly<E>, AllocError>
-    requires zero { IsTrue (E.ops.is_zero E.ops.zero) }
-    requires light { E.ops.weight E.ops.one ≡ 1 }
-    ensures { IfOk result (λ it. it ≡ E.ops.zero ∷ E.ops.one ∷ []) }
+/// The variable of a level in the field of five levels.
+fn variable_of(alloc: Global, level: u8) -> Result<Nest, AllocError>
+    requires { level < 5 }
+    ensures { IfOk result (λ it. it ≡ spec.variable 5 level) }
 {
-    let mut coefficients = Vec::new(alloc);
-    coefficients.push(E::zero())?;
-    coefficients.push(E::one())?;
-    Ok(Poly::kept(coefficients, 1))
-}
-
-/// t/1, the variable of the level over a field.
-#[tactic(auto, using(crate::proofs::VariablePolynomial::variable_is_light))]
-fn own_variable<E: Arith>(alloc: Global) -> Result<Over<E>, AllocError>
-    requires zero { IsTrue (E.ops.is_zero E.ops.zero) }
-    requires light { E.ops.weight E.ops.one ≡ 1 }
-    ensures { IfOk result (λ it. it ≡ spec.own_variable E.ops) }
-{
-    let num = own_polynomial(alloc)?;
-    let den = Poly::one(alloc)?;
-    Ok(Over::Quotient(Ratio { num, den }))
+    let variable = match level {
+        0 => {
+            let first = Over::Below(variable::<Frac>(alloc)?);
+            Over::Below(Over::Below(Over::Below(first)))
+        }
+        1 => Over::Below(Over::Below(Over::Below(variable(alloc)?))),
+        2 => Over::Below(Over::Below(variable(alloc)?)),
+        3 => Over::Below(variable(alloc)?),
+        _ => variable(alloc)?,
+    };
+    Ok(variable)
 }
 
 impl Elem {
-    /// The variable of a level, and 0 for a level that the tower has not.
+    /// The variable of a level l, from 0 to 4: x for l = 0, tl for the others. It lies in the field of the first l + 1 variables.
+    ///
+    /// `Err(AllocError)` for want of memory alone.
+    #[tactic(auto, using(risch_element_theory::proofs::ElementRules::variables))]
     pub fn variable(alloc: Global, level: u8) -> Result<Elem, AllocError>
-        ensures { IfOk result (λ it. it ≡ spec.variable 5 level) }
+        requires { level < 5 }
+        ensures value { IfOk result (λ it. it ≡ spec.variable 5 level) }
+        ensures meaning { IfOk result (λ it. meaning it ≡ mean.variable level) }
+        ensures within { IfOk result (λ it. Within (level + 1) it) }
     {
-        let inner = match level {
-            0 => {
-                let first = Over::Below(own_variable::<Frac>(alloc)?);
-                Over::Below(Over::Below(Over::Below(first)))
-            }
-            1 => Over::Below(Over::Below(Over::Below(own_variable(alloc)?))),
-            2 => Over::Below(Over::Below(own_variable(alloc)?)),
-            3 => Over::Below(own_variable(alloc)?),
-            4 => own_variable(alloc)?,
-            _ => Over::zero(),
-        };
-        Ok(Elem { inner })
+        let inner = variable_of(alloc, level)?;
+        Ok(Elem::of(inner))
     }
 }

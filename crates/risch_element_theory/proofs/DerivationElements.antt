@@ -5,19 +5,19 @@ use Rattle.std.proofs.Common.{◌≡◌, Bool, true, false, List, [], Ok, Err, r
 use Rattle.risch_ring.specs.CommRing.{Field, Derivation, quotient}
 use Rattle.risch_ring.proofs.FieldLaws as FieldLaws
 use Rattle.risch_ring.proofs.QuotientRule as QuotientRule
-use Rattle.risch_elem.specs.Checked.{Checked, and_then, map_ok}
-use Rattle.risch_elem.specs.Ops.{Ops}
-use Rattle.risch_elem.specs.Poly as poly
-use Rattle.risch_elem.specs.Polynomial.{IsPolynomial}
-use Rattle.risch_elem.specs.Over as level
-use Rattle.risch_elem.specs.Meaning.{AllValid, value}
-use Rattle.risch_elem.specs.declared.over.Over.{Over}
-use Rattle.risch_elem.specs.declared.over.Over.TheVariants.{Below, Quotient}
-use Rattle.risch_elem.proofs.CheckedSteps.{and_then-ok}
-use Rattle.risch_elem.proofs.PolynomialShapes as Shapes
-use Rattle.risch_elem.proofs.PolynomialValues as Values
-use Rattle.risch_tower.specs.Derivation as rules
-use Rattle.risch_tower.specs.declared.rate.Rate.{Rate}
+use Rattle.risch_field.specs.Checked.{Checked, and_then, map_ok}
+use Rattle.risch_field.specs.Ops.{Ops}
+use Rattle.risch_polynomial.specs.Poly as poly
+use Rattle.risch_polynomial.specs.Polynomial.{IsPolynomial}
+use Rattle.risch_level.specs.Over as level
+use Rattle.risch_polynomial_theory.specs.Meaning.{AllValid, value}
+use Rattle.risch_level.specs.declared.over.Over.{Over}
+use Rattle.risch_level.specs.declared.over.Over.TheVariants.{Below, Quotient}
+use Rattle.risch_field.proofs.CheckedSteps.{and_then-ok}
+use Rattle.risch_polynomial_theory.proofs.PolynomialShapes as Shapes
+use Rattle.risch_polynomial_theory.proofs.PolynomialValues as Values
+use Rattle.risch_derivation.specs.Derivation as rules
+use Rattle.risch_derivation.specs.declared.rate.Rate.{Rate}
 use Rattle.risch_element_theory.specs.DerivationMeaning.{Derives, IsRate}
 use Rattle.risch_element_theory.specs.PolynomialMeaning.{IsKept}
 use Rattle.risch_element_theory.specs.ElementMeaning.{IsBelow, valid_over, meaning_over}

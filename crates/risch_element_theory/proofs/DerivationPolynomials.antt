@@ -8,18 +8,18 @@ use Rattle.risch_ring.proofs.Laws as Laws
 use Rattle.risch_ring.proofs.Derivations as Derivations
 use Rattle.risch_ring.proofs.Expression.{reading}
 use Rattle.risch_ring.proofs.Solver.{ring}
-use Rattle.risch_elem.specs.Checked.{Checked, and_then}
-use Rattle.risch_elem.specs.Ops.{Ops}
-use Rattle.risch_elem.specs.Poly as poly
-use Rattle.risch_elem.specs.Polynomial.{IsPolynomial}
-use Rattle.risch_elem.specs.Meaning.{Interprets, AllValid, value}
-use Rattle.risch_elem.proofs.CheckedSteps.{and_then-ok}
-use Rattle.risch_elem.proofs.PolynomialShapes as Shapes
-use Rattle.risch_elem.proofs.PolynomialValues as Values
-use Rattle.risch_tower.specs.Derivation as rules
-use Rattle.risch_tower.specs.declared.rate.Kind.{Kind}
-use Rattle.risch_tower.specs.declared.rate.Kind.TheVariants.{Primitive, Exponential}
-use Rattle.risch_tower.specs.declared.rate.Rate.{Rate}
+use Rattle.risch_field.specs.Checked.{Checked, and_then}
+use Rattle.risch_field.specs.Ops.{Ops}
+use Rattle.risch_polynomial.specs.Poly as poly
+use Rattle.risch_polynomial.specs.Polynomial.{IsPolynomial}
+use Rattle.risch_polynomial_theory.specs.Meaning.{Interprets, AllValid, value}
+use Rattle.risch_field.proofs.CheckedSteps.{and_then-ok}
+use Rattle.risch_polynomial_theory.proofs.PolynomialShapes as Shapes
+use Rattle.risch_polynomial_theory.proofs.PolynomialValues as Values
+use Rattle.risch_derivation.specs.Derivation as rules
+use Rattle.risch_derivation.specs.declared.rate.Kind.{Kind}
+use Rattle.risch_derivation.specs.declared.rate.Kind.TheVariants.{Primitive, Exponential}
+use Rattle.risch_derivation.specs.declared.rate.Rate.{Rate}
 use Rattle.risch_element_theory.specs.DerivationMeaning.{HasRate, Derives, IsRate}
 
 pub derive_polynomial-polynomial : {E : Type 0} (o : Ops E) (rule : E → Checked E) (rate : Rate E) (p r : List E) → rules.derive_polynomial o rule rate p ≡ Ok r → IsPolynomial o r (poly.weight o r)

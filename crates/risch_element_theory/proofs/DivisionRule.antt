@@ -6,10 +6,10 @@ use Rattle.risch_univariate.specs.Division.{IsDivision, Divides}
 use Rattle.risch_univariate.specs.PolynomialRing.{polynomials}
 use Rattle.risch_univariate.proofs.Degree as Degree
 use Rattle.risch_univariate.proofs.Division as Division
-use Rattle.risch_elem.specs.Ops.{Ops}
-use Rattle.risch_elem.specs.Poly as poly
-use Rattle.risch_elem.specs.Meaning.{Interprets}
-use Rattle.risch_elem.proofs.CheckedSteps.{and_then-ok}
+use Rattle.risch_field.specs.Ops.{Ops}
+use Rattle.risch_polynomial.specs.Poly as poly
+use Rattle.risch_polynomial_theory.specs.Meaning.{Interprets}
+use Rattle.risch_field.proofs.CheckedSteps.{and_then-ok}
 use Rattle.risch_element_theory.specs.PolynomialMeaning.{polynomial_of, IsKept, KeepsDivision, KeepsQuotient}
 use Rattle.risch_element_theory.proofs.DivisionValues as DivisionValues
 use Rattle.risch_element_theory.proofs.PolynomialRules as Rules

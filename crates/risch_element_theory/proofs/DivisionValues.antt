@@ -7,14 +7,14 @@ use Rattle.risch_ring.specs.CommRing.{CommRing, power}
 use Rattle.risch_ring.proofs.Laws as Laws
 use Rattle.risch_ring.proofs.Expression.{reading}
 use Rattle.risch_ring.proofs.Solver.{ring}
-use Rattle.risch_elem.specs.Checked.{and_then}
-use Rattle.risch_elem.specs.Ops.{Ops}
-use Rattle.risch_elem.specs.Poly as poly
-use Rattle.risch_elem.specs.Meaning.{Interprets, AllValid, value}
-use Rattle.risch_elem.proofs.CheckedSteps.{and_then-ok}
-use Rattle.risch_elem.proofs.CoefficientLists.{trimmed-trimmed}
-use Rattle.risch_elem.proofs.PolynomialValues.{coefficient-valid, trimmed-valid, trimmed-means, sized-is}
-use Rattle.risch_elem.proofs.PolynomialShapes as Shapes
+use Rattle.risch_field.specs.Checked.{and_then}
+use Rattle.risch_field.specs.Ops.{Ops}
+use Rattle.risch_polynomial.specs.Poly as poly
+use Rattle.risch_polynomial_theory.specs.Meaning.{Interprets, AllValid, value}
+use Rattle.risch_field.proofs.CheckedSteps.{and_then-ok}
+use Rattle.risch_polynomial.proofs.CoefficientLists.{trimmed-trimmed}
+use Rattle.risch_polynomial_theory.proofs.PolynomialValues.{coefficient-valid, set-valid, set-means, power-next, zeros-valid, zeros-means, trimmed-valid, trimmed-means, sized-is}
+use Rattle.risch_polynomial_theory.proofs.PolynomialShapes as Shapes
 use Rattle.risch_element_theory.specs.PolynomialMeaning.{IsKept}
 
 -- r has valid coefficients, the length n and the value v
@@ -119,29 +119,6 @@ module _ {E A : Type 0} {o : Ops E} {R : CommRing A} {valid : E → Type 0} {mea
       by_tail (b ∷ s) l = omega (arith, l)
 
   -- ---- one row is taken away
-  set-valid : (p : List E) (k : ℕ) (s : E) → AllValid valid p → valid s → AllValid valid (slice_set p k s)
-  set-valid [] k s all v = tt
-  set-valid (c ∷ p) zero s all v = (v, all.1)
-  set-valid (c ∷ p) (suc k) s all v = (all.0, set-valid p k s all.1 v)
-
-  power-next : (k : ℕ) → power R t (k + 1) ≡ t ⊗ power R t k
-  power-next k = let next : k + 1 ≡ suc k = omega arith in ap (power R t) next ∙ Laws.power-suc R t k
-
-  -- another coefficient at exponent k, which differs by d
-  set-means : (p : List E) (k : ℕ) (s : E) (d : A) → k < length p → meaning s ≡ meaning (poly.coefficient o p k) ⊕ d → at (slice_set p k s) ≡ at p ⊕ power R t k ⊗ d
-  set-means [] k s d below e = absurd (omega arith)
-  set-means (c ∷ p) zero s d below e =
-      ap (λ m. m ⊕ t ⊗ at p) e ∙ first (meaning c) d t (at p) ∙ ap (λ w. meaning c ⊕ t ⊗ at p ⊕ w ⊗ d) (sym (Laws.power-zero R t))
-    where
-      first : (c d t v : A) → c ⊕ d ⊕ t ⊗ v ≡ c ⊕ t ⊗ v ⊕ 𝟙 ⊗ d
-      first c d t v = ring R (c ∷ d ∷ t ∷ v ∷ []) (search reading depth 30 fits 4000) refl
-  set-means (c ∷ p) (suc k) s d below e =
-      ap (λ v. meaning c ⊕ t ⊗ v) (set-means p k s d (omega arith) e) ∙ spread (meaning c) t (at p) (power R t k) d
-      ∙ ap (λ w. meaning c ⊕ t ⊗ at p ⊕ w ⊗ d) (sym (Laws.power-suc R t k))
-    where
-      spread : (c t v w d : A) → c ⊕ t ⊗ (v ⊕ w ⊗ d) ≡ c ⊕ t ⊗ v ⊕ t ⊗ w ⊗ d
-      spread c t v w d = ring R (c ∷ t ∷ v ∷ w ∷ d ∷ []) (search reading depth 30 fits 4000) refl
-
   -- a row takes a·t^k·q away
   row-means : (formed : List E) (k : ℕ) (a : E) (q r : List E) → AllValid valid formed → valid a → AllValid valid q → k + length q ≤ length formed →
       poly.row o true formed k a q ≡ Ok r → Formed valid at r (length formed) (at formed ⊕ power R t k ⊗ ⊖ (meaning a ⊗ at q))
@@ -164,12 +141,12 @@ module _ {E A : Type 0} {o : Ops E} {R : CommRing A} {valid : E → Type 0} {mea
       h.sum-means old (o.negative c) s old-valid (h.negative-valid c c-valid) plus.is
       ∙ ap (λ x. meaning old ⊕ x) (h.negative-means c c-valid ∙ ap R.neg (h.product-means a b c v all_q.0 times.is)) in
       let len = length-set formed k s in
-      let others = row-means (slice_set formed k s) (k + 1) a q r (set-valid formed k s all s-valid) v all_q.1 (omega (arith, len, room)) plus.next in
+      let others = row-means (slice_set formed k s) (k + 1) a q r (set-valid h formed k s all s-valid) v all_q.1 (omega (arith, len, room)) plus.next in
       record {
         len = others.len ∙ len;
         all = others.all;
         means = others.means
-            ∙ ap₂ (λ f w. f ⊕ w ⊗ ⊖ (meaning a ⊗ at q)) (set-means formed k s (⊖ (meaning a ⊗ meaning b)) (omega (arith, room)) s-means) (power-next k)
+            ∙ ap₂ (λ f w. f ⊕ w ⊗ ⊖ (meaning a ⊗ at q)) (set-means h t formed k s (⊖ (meaning a ⊗ meaning b)) (omega (arith, room)) s-means) (power-next h t k)
             ∙ spread (at formed) (power R t k) t (meaning a) (meaning b) (at q);
       }
     where
@@ -239,13 +216,13 @@ module _ {E A : Type 0} {o : Ops E} {R : CommRing A} {valid : E → Type 0} {mea
       ∙ ap₂ (λ x y. at quotient ⊗ x ⊕ y) (take-means m q q-len)
       (take-means n r r-len ∙ ap₂ (λ w x. at (poly.front o r) ⊕ w ⊗ x) (ap (power R t) degree ∙ Laws.power-add R t k m) lead-means)
       ∙ sym (step_identity (at quotient) (power R t k) (meaning c) (at (poly.front o q)) (meaning (poly.last o q)) (power R t m) (at (poly.front o r)))
-      ∙ sym (ap₂ (λ x y. x ⊗ y ⊕ at (poly.trimmed o s)) (set-means quotient k c (meaning c) below slot-means) (take-means m q q-len)
+      ∙ sym (ap₂ (λ x y. x ⊗ y ⊕ at (poly.trimmed o s)) (set-means h t quotient k c (meaning c) below slot-means) (take-means m q q-len)
       ∙ ap (λ x. (at quotient ⊕ power R t k ⊗ meaning c) ⊗ (at (poly.front o q) ⊕ power R t m ⊗ meaning (poly.last o q)) ⊕ x) (trimmed-means h t s row.all ∙ row.means)) in
       let both : SamePair (slice_set quotient k c, poly.trimmed o s) (quotient', r') = cc rest.next in
       subst (λ d. Goes_on p q r d.0 d.1) both
       (record {
         begun = record {
-          quotient_valid = set-valid quotient k c b.quotient_valid c-valid;
+          quotient_valid = set-valid h quotient k c b.quotient_valid c-valid;
           remainder_kept = record { all_valid = trimmed-valid h s row.all; ends_not_zero = trimmed-trimmed o s; degree_small = omega (arith, shorter, s-len, front_r-len, r-len, limit) };
           equation = whole;
           room = omega (arith, shorter, s-len, front_r-len, quotient-len, room, r-len);
@@ -283,14 +260,6 @@ module _ {E A : Type 0} {o : Ops E} {R : CommRing A} {valid : E → Type 0} {mea
           go_on d.0 d.1 next.begun (omega (arith, l, enough)) first.next
 
   -- ---- the division
-  zeros-means : (n : ℕ) → at (replicate n o.zero) ≡ 𝟘
-  zeros-means zero = refl
-  zeros-means (suc n) = ap₂ (λ c v. c ⊕ t ⊗ v) h.zero-means (zeros-means n) ∙ Laws.zero-add R (t ⊗ 𝟘) ∙ Laws.mul-zero R t
-
-  zeros-valid : (n : ℕ) → AllValid valid (replicate n o.zero)
-  zeros-valid zero = tt
-  zeros-valid (suc n) = (h.zero-valid, zeros-valid n)
-
   zeros-coefficient : (n i : ℕ) → poly.coefficient o (replicate n o.zero) i ≡ o.zero
   zeros-coefficient zero i = refl
   zeros-coefficient (suc n) zero = refl
@@ -301,9 +270,9 @@ module _ {E A : Type 0} {o : Ops E} {R : CommRing A} {valid : E → Type 0} {mea
       let n = length p + 1 - length q in
       let len : length (replicate n o.zero) ≡ n = length-replicate n o.zero in
       record {
-        quotient_valid = zeros-valid n;
+        quotient_valid = zeros-valid h n;
         remainder_kept = k;
-        equation = sym (ap (λ x. x ⊗ at q ⊕ at p) (zeros-means n) ∙ ap (λ x. x ⊕ at p) (Laws.zero-mul R (at q)) ∙ Laws.zero-add R (at p));
+        equation = sym (ap (λ x. x ⊗ at q ⊕ at p) (zeros-means h t n) ∙ ap (λ x. x ⊕ at p) (Laws.zero-mul R (at q)) ∙ Laws.zero-add R (at p));
         room = omega (arith, len, some);
         unformed = λ i l. zeros-coefficient n i;
       }

@@ -1,8 +1,8 @@
 -- The rules of the level over a field are those of the field K(t): each element stands for one of them, and the operations for the sum, the product and so on.
 use Rattle.risch_ring.specs.CommRing.{Field}
-use Rattle.risch_elem.specs.Ops.{Ops}
-use Rattle.risch_elem.specs.Over.{over}
-use Rattle.risch_elem.specs.Meaning.{Interprets}
+use Rattle.risch_field.specs.Ops.{Ops}
+use Rattle.risch_level.specs.Over.{over}
+use Rattle.risch_polynomial_theory.specs.Meaning.{Interprets}
 use Rattle.risch_element_theory.specs.ElementMeaning.{IsBelow, valid_over, meaning_over}
 use Rattle.risch_element_theory.proofs.ElementsSums.{sum-gets}
 use Rattle.risch_element_theory.proofs.ElementsProducts.{negative-gets, product-gets, quotient-is_quotient}

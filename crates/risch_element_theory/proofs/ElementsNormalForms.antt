@@ -12,14 +12,14 @@ use Rattle.risch_univariate.specs.Division.{IsCoprime}
 use Rattle.risch_univariate.proofs.Coefficients as Coefficients
 use Rattle.risch_univariate.proofs.Degree as Degree
 use Rattle.risch_univariate.proofs.Gcd as Gcd
-use Rattle.risch_elem.specs.Checked.{Checked, and_then}
-use Rattle.risch_elem.specs.Ops.{Ops}
-use Rattle.risch_elem.specs.Poly as poly
-use Rattle.risch_elem.specs.Over as level
-use Rattle.risch_elem.specs.Meaning.{value}
-use Rattle.risch_elem.specs.declared.over.Over.{Over}
-use Rattle.risch_elem.specs.declared.over.Over.TheVariants.{Below}
-use Rattle.risch_elem.proofs.CheckedSteps.{and_then-ok}
+use Rattle.risch_field.specs.Checked.{Checked, and_then}
+use Rattle.risch_field.specs.Ops.{Ops}
+use Rattle.risch_polynomial.specs.Poly as poly
+use Rattle.risch_level.specs.Over as level
+use Rattle.risch_polynomial_theory.specs.Meaning.{value}
+use Rattle.risch_level.specs.declared.over.Over.{Over}
+use Rattle.risch_level.specs.declared.over.Over.TheVariants.{Below}
+use Rattle.risch_field.proofs.CheckedSteps.{and_then-ok}
 use Rattle.risch_element_theory.specs.PolynomialMeaning.{IsKept, polynomial_of, KeepsGcd}
 use Rattle.risch_element_theory.specs.ElementMeaning.{IsBelow, IsReduced}
 use Rattle.risch_element_theory.proofs.PolynomialRules as PolynomialRules

@@ -13,14 +13,14 @@ use Rattle.risch_univariate.specs.Division.{IsCoprime}
 use Rattle.risch_univariate.specs.Degree.{IsMonic, leading_coefficient}
 use Rattle.risch_univariate.proofs.Divides as DividesLaws
 use Rattle.risch_univariate.proofs.Gcd as Gcd
-use Rattle.risch_elem.specs.Checked.{and_then}
-use Rattle.risch_elem.specs.Ops.{Ops}
-use Rattle.risch_elem.specs.Poly as poly
-use Rattle.risch_elem.specs.Over as level
-use Rattle.risch_elem.specs.Meaning.{value}
-use Rattle.risch_elem.specs.declared.over.Over.{Over}
-use Rattle.risch_elem.specs.declared.over.Over.TheVariants.{Below, Quotient}
-use Rattle.risch_elem.proofs.CheckedSteps.{and_then-ok}
+use Rattle.risch_field.specs.Checked.{and_then}
+use Rattle.risch_field.specs.Ops.{Ops}
+use Rattle.risch_polynomial.specs.Poly as poly
+use Rattle.risch_level.specs.Over as level
+use Rattle.risch_polynomial_theory.specs.Meaning.{value}
+use Rattle.risch_level.specs.declared.over.Over.{Over}
+use Rattle.risch_level.specs.declared.over.Over.TheVariants.{Below, Quotient}
+use Rattle.risch_field.proofs.CheckedSteps.{and_then-ok}
 use Rattle.risch_element_theory.specs.ElementMeaning.{IsBelow, IsReduced, IsNormal, valid_over, meaning_over}
 use Rattle.risch_element_theory.proofs.PolynomialRules as PolynomialRules
 use Rattle.risch_element_theory.proofs.DivisionRule as DivisionRule

@@ -14,14 +14,14 @@ use Rattle.risch_univariate.proofs.Degree as Degree
 use Rattle.risch_univariate.proofs.Divides as DividesLaws
 use Rattle.risch_univariate.proofs.Evaluation as Evaluation
 use Rattle.risch_univariate.proofs.Gcd as Gcd
-use Rattle.risch_elem.specs.Ops.{Ops}
-use Rattle.risch_elem.specs.Poly as poly
-use Rattle.risch_elem.specs.Over as level
-use Rattle.risch_elem.specs.Meaning.{AllValid, value}
-use Rattle.risch_elem.specs.declared.over.Over.{Over}
-use Rattle.risch_elem.specs.declared.over.Over.TheVariants.{Below, Quotient}
-use Rattle.risch_elem.proofs.CheckedSteps.{if-ok}
-use Rattle.risch_elem.proofs.PolynomialValues as PolynomialValues
+use Rattle.risch_field.specs.Ops.{Ops}
+use Rattle.risch_polynomial.specs.Poly as poly
+use Rattle.risch_level.specs.Over as level
+use Rattle.risch_polynomial_theory.specs.Meaning.{AllValid, value}
+use Rattle.risch_level.specs.declared.over.Over.{Over}
+use Rattle.risch_level.specs.declared.over.Over.TheVariants.{Below, Quotient}
+use Rattle.risch_field.proofs.CheckedSteps.{if-ok}
+use Rattle.risch_polynomial_theory.proofs.PolynomialValues as PolynomialValues
 use Rattle.risch_element_theory.specs.PolynomialMeaning.{IsKept, polynomial_of}
 use Rattle.risch_element_theory.specs.ElementMeaning.{IsBelow, IsReduced, valid_over, meaning_over}
 use Rattle.risch_element_theory.proofs.PolynomialRules as PolynomialRules

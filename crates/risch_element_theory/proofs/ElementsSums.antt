@@ -10,15 +10,15 @@ use Rattle.risch_univariate.specs.Polynomial.{Polynomial}
 use Rattle.risch_univariate.specs.PolynomialRing.{polynomials}
 use Rattle.risch_univariate.specs.Division.{IsCoprime}
 use Rattle.risch_univariate.proofs.Degree as Degree
-use Rattle.risch_elem.specs.Checked.{Checked, and_then, map_ok}
-use Rattle.risch_elem.specs.Ops.{Ops}
-use Rattle.risch_elem.specs.Poly as poly
-use Rattle.risch_elem.specs.Over as level
-use Rattle.risch_elem.specs.Meaning.{value}
-use Rattle.risch_elem.specs.declared.over.Over.{Over}
-use Rattle.risch_elem.specs.declared.over.Over.TheVariants.{Below, Quotient}
-use Rattle.risch_elem.proofs.CheckedSteps.{and_then-ok}
-use Rattle.risch_elem.proofs.PolynomialValues as PolynomialValues
+use Rattle.risch_field.specs.Checked.{Checked, and_then, map_ok}
+use Rattle.risch_field.specs.Ops.{Ops}
+use Rattle.risch_polynomial.specs.Poly as poly
+use Rattle.risch_level.specs.Over as level
+use Rattle.risch_polynomial_theory.specs.Meaning.{value}
+use Rattle.risch_level.specs.declared.over.Over.{Over}
+use Rattle.risch_level.specs.declared.over.Over.TheVariants.{Below, Quotient}
+use Rattle.risch_field.proofs.CheckedSteps.{and_then-ok}
+use Rattle.risch_polynomial_theory.proofs.PolynomialValues as PolynomialValues
 use Rattle.risch_element_theory.specs.PolynomialMeaning.{IsKept}
 use Rattle.risch_element_theory.specs.ElementMeaning.{IsBelow, IsReduced, IsNormal, valid_over, meaning_over}
 use Rattle.risch_element_theory.proofs.PolynomialRules as PolynomialRules

@@ -16,12 +16,12 @@ use Rattle.risch_mean.specs.ElementField.{elements}
 use Rattle.risch_mean.specs.Vectors.{AllZero}
 use Rattle.risch_mean.proofs.FieldClosure as FieldClosure
 use Rattle.risch_mean.proofs.Levels.{transcendental}
-use Rattle.risch_elem.specs.FractionMeaning.{fraction_meaning}
-use Rattle.risch_elem.specs.Ground.{ground}
-use Rattle.risch_elem.specs.Levels.{Field, field, element}
-use Rattle.risch_elem.specs.Meaning.{Interprets, AllValid, value}
-use Rattle.risch_elem.specs.declared.over.Over.TheVariants.{Below, Quotient}
-use Rattle.risch_elem.proofs.FractionValues.{ground_means}
+use Rattle.risch_polynomial_theory.specs.FractionMeaning.{fraction_meaning}
+use Rattle.risch_field.specs.Ground.{ground}
+use Rattle.risch_level.specs.Levels.{Field, field, element}
+use Rattle.risch_polynomial_theory.specs.Meaning.{Interprets, AllValid, value}
+use Rattle.risch_level.specs.declared.over.Over.TheVariants.{Below, Quotient}
+use Rattle.risch_polynomial_theory.proofs.FractionValues.{ground_means}
 use Rattle.risch_element_theory.specs.ElementMeaning.{IsBelow, IsClosed, IsTranscendental, TellsOne}
 use Rattle.risch_element_theory.specs.LevelMeaning.{valid_at, meaning_at}
 use Rattle.risch_element_theory.proofs.ElementsSums.{Means, variable-gets}

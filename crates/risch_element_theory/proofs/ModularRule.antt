@@ -7,14 +7,14 @@ use Rattle.risch_univariate.specs.Degree.{size}
 use Rattle.risch_univariate.specs.Division.{Divides}
 use Rattle.risch_univariate.specs.PolynomialRing.{polynomials}
 use Rattle.risch_univariate.proofs.Degree as Degree
-use Rattle.risch_elem.specs.Checked.{and_then}
-use Rattle.risch_elem.specs.Ops.{Ops}
-use Rattle.risch_elem.specs.Poly as poly
-use Rattle.risch_elem.specs.Meaning.{Interprets}
-use Rattle.risch_elem.proofs.CheckedSteps.{and_then-ok}
+use Rattle.risch_field.specs.Checked.{and_then}
+use Rattle.risch_field.specs.Ops.{Ops}
+use Rattle.risch_polynomial.specs.Poly as poly
+use Rattle.risch_polynomial_theory.specs.Meaning.{Interprets}
+use Rattle.risch_field.proofs.CheckedSteps.{and_then-ok}
 use Rattle.risch_element_theory.specs.PolynomialMeaning.{polynomial_of, IsKept, KeepsPolynomial}
 use Rattle.risch_element_theory.specs.ModularMeaning.{KeepsInverse, KeepsSolution, InverseMeans, SolutionMeans}
-use Rattle.risch_elem.specs.Modular as modular
+use Rattle.risch_polynomial.specs.Modular as modular
 use Rattle.risch_element_theory.proofs.DivisionValues as DivisionValues
 use Rattle.risch_element_theory.proofs.DivisionRule as DivisionRule
 use Rattle.risch_element_theory.proofs.GcdRule as GcdRule

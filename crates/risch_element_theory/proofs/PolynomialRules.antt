@@ -17,12 +17,12 @@ use Rattle.risch_mean.specs.Univariate.{value_at, numbered, formal_derivative}
 use Rattle.risch_univariate.proofs.Degree as Degree
 use Rattle.risch_univariate.proofs.Derivation as Derivation
 use Rattle.risch_univariate.proofs.FormalDerivative as FormalDerivative
-use Rattle.risch_elem.specs.Ops.{Ops}
-use Rattle.risch_elem.specs.Poly as poly
-use Rattle.risch_elem.specs.Polynomial.{IsPolynomial}
-use Rattle.risch_elem.specs.Meaning.{Interprets, AllValid, value}
-use Rattle.risch_elem.proofs.PolynomialShapes as Shapes
-use Rattle.risch_elem.proofs.PolynomialValues as Values
+use Rattle.risch_field.specs.Ops.{Ops}
+use Rattle.risch_polynomial.specs.Poly as poly
+use Rattle.risch_polynomial.specs.Polynomial.{IsPolynomial}
+use Rattle.risch_polynomial_theory.specs.Meaning.{Interprets, AllValid, value}
+use Rattle.risch_polynomial_theory.proofs.PolynomialShapes as Shapes
+use Rattle.risch_polynomial_theory.proofs.PolynomialValues as Values
 use Rattle.risch_element_theory.specs.PolynomialMeaning.{polynomial_of, IsKept, KeepsPolynomial}
 
 module _ {E A : Type 0} {o : Ops E} (F : Field A) {valid : E → Type 0} {meaning : E → A} (h : Interprets o F.ring valid meaning) where

@@ -4,11 +4,11 @@ use Rattle.risch_ring.specs.CommRing.{CommRing, Derivation}
 use Rattle.risch_mean.specs.Element.{Element}
 use Rattle.risch_mean.specs.Tower as towers
 use Rattle.risch_mean.specs.Tower.{Tower, kind_of}
-use Rattle.risch_elem.specs.Checked.{Checked}
-use Rattle.risch_tower.specs.Derivation.{Rates}
-use Rattle.risch_tower.specs.declared.rate.Kind.{Kind}
-use Rattle.risch_tower.specs.declared.rate.Kind.TheVariants.{Primitive, Exponential}
-use Rattle.risch_tower.specs.declared.rate.Rate.{Rate}
+use Rattle.risch_field.specs.Checked.{Checked}
+use Rattle.risch_derivation.specs.Derivation.{Rates}
+use Rattle.risch_derivation.specs.declared.rate.Kind.{Kind}
+use Rattle.risch_derivation.specs.declared.rate.Kind.TheVariants.{Primitive, Exponential}
+use Rattle.risch_derivation.specs.declared.rate.Rate.{Rate}
 use Rattle.risch_element_theory.specs.LevelMeaning.{valid_at, meaning_at}
 
 -- ---- a field and its derivation D

@@ -4,11 +4,11 @@ use Rattle.risch_ring.specs.CommRing.{Field, quotient}
 use Rattle.risch_ring.specs.Lists.{Each}
 use Rattle.risch_univariate.specs.Division.{IsCoprime}
 use Rattle.risch_mean.specs.Univariate.{value_at}
-use Rattle.risch_elem.specs.Ops.{Ops}
-use Rattle.risch_elem.specs.Poly as poly
-use Rattle.risch_elem.specs.Meaning.{Interprets, value}
-use Rattle.risch_elem.specs.declared.over.Over.{Over}
-use Rattle.risch_elem.specs.declared.over.Over.TheVariants.{Below, Quotient}
+use Rattle.risch_field.specs.Ops.{Ops}
+use Rattle.risch_polynomial.specs.Poly as poly
+use Rattle.risch_polynomial_theory.specs.Meaning.{Interprets, value}
+use Rattle.risch_level.specs.declared.over.Over.{Over}
+use Rattle.risch_level.specs.declared.over.Over.TheVariants.{Below, Quotient}
 use Rattle.risch_element_theory.specs.PolynomialMeaning.{IsKept, polynomial_of}
 
 -- the test of 1 tells the truth

@@ -3,8 +3,8 @@ use Rattle.std.specs.Prelude.{ℕ, zero, suc}
 use Rattle.risch_frac.specs.Fraction.{IsLowest}
 use Rattle.risch_mean.specs.Element.{Element, variable}
 use Rattle.risch_mean.specs.ElementField.{elements}
-use Rattle.risch_elem.specs.FractionMeaning.{fraction_meaning}
-use Rattle.risch_elem.specs.Levels.{Field, field}
+use Rattle.risch_polynomial_theory.specs.FractionMeaning.{fraction_meaning}
+use Rattle.risch_level.specs.Levels.{Field, field}
 use Rattle.risch_element_theory.specs.ElementMeaning.{meaning_over, valid_over}
 
 -- the element that e stands for: variable 0 is x, variable i is ti

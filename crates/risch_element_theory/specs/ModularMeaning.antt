@@ -4,7 +4,7 @@ use Rattle.risch_ring.specs.CommRing.{Field, sub}
 use Rattle.risch_univariate.specs.Degree.{size}
 use Rattle.risch_univariate.specs.Division.{Divides, IsCoprime}
 use Rattle.risch_univariate.specs.PolynomialRing.{polynomials}
-use Rattle.risch_elem.specs.Ops.{Ops}
+use Rattle.risch_field.specs.Ops.{Ops}
 use Rattle.risch_element_theory.specs.PolynomialMeaning.{polynomial_of, IsKept}
 
 module _ {E A : Type 0} (o : Ops E) (F : Field A) (valid : E → Type 0) (meaning : E → A) where

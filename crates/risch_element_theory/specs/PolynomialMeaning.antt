@@ -5,9 +5,9 @@ use Rattle.risch_univariate.specs.Polynomial.{Polynomial, of_list}
 use Rattle.risch_univariate.specs.Degree.{IsMonic}
 use Rattle.risch_univariate.specs.Division.{IsDivision, IsGcd}
 use Rattle.risch_univariate.specs.PolynomialRing.{polynomials}
-use Rattle.risch_elem.specs.Ops.{Ops}
-use Rattle.risch_elem.specs.Poly as poly
-use Rattle.risch_elem.specs.Meaning.{AllValid}
+use Rattle.risch_field.specs.Ops.{Ops}
+use Rattle.risch_polynomial.specs.Poly as poly
+use Rattle.risch_polynomial_theory.specs.Meaning.{AllValid}
 
 -- ⟦p⟧ = ⟦p_0⟧ + ⟦p_1⟧·t + ..
 unfoldable pub polynomial_of : {E A : Type 0} (F : Field A) → (E → A) → List E → Polynomial F

@@ -20,9 +20,6 @@ ghost use Rattle.risch_frac.specs.Fraction as spec;
 
 use std::marker::Model;
 
-#[cfg(test)]
-mod tests;
-
 /// The operation whose numbers do not fit.
 #[derive(Clone, Copy, Debug, PartialEq, Eq)]
 pub enum Op {

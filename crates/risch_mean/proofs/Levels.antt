@@ -3,6 +3,7 @@
 --     InField-derive      closed under the derivation
 --     derive_prefix      the derivation of an element of a field looks only at the variables of that field
 --     derivative-log, derivative-exp      Dt = Da/a and Dt = Da·t in the derivation of the whole tower
+--     derivative-past      Dt = 0 for a variable t past the end of the tower
 --     transcendental      c_0 + c_1·t + .. = 0 with c_j in the field below t only if each c_j = 0
 use Rattle.std.specs.Prelude.{◌≡◌, refl, ℕ, zero as nat_zero, suc, ◌+◌, ◌≤◌, ◌<◌, List, [], ◌∷◌, ◌++◌, length}
 use Rattle.std.proofs.Common.{sym, ap, ap₂, ◌∙◌, subst, arith, length-append}
@@ -93,11 +94,11 @@ derivatives_extend vs (m ∷ ms) =
     let e = derivatives_extend (vs ++ (next_derivative vs m ∷ [])) ms in
     (next_derivative vs m ∷ e.0, e.1 ∙ append_assoc vs (next_derivative vs m ∷ []) e.0)
 
-derivatives_from-append : (vs : List Element) (ms ns : Tower) → derivatives_from vs (ms ++ ns) ≡ derivatives_from (derivatives_from vs ms) ns
+pub derivatives_from-append : (vs : List Element) (ms ns : Tower) → derivatives_from vs (ms ++ ns) ≡ derivatives_from (derivatives_from vs ms) ns
 derivatives_from-append vs [] ns = refl
 derivatives_from-append vs (m ∷ ms) ns = derivatives_from-append (vs ++ (next_derivative vs m ∷ [])) ms ns
 
-length-derivatives_from : (vs : List Element) (ms : Tower) → length (derivatives_from vs ms) ≡ length vs + length ms
+pub length-derivatives_from : (vs : List Element) (ms : Tower) → length (derivatives_from vs ms) ≡ length vs + length ms
 length-derivatives_from vs [] = omega arith
 length-derivatives_from vs (m ∷ ms) = omega (arith, length-derivatives_from (vs ++ (next_derivative vs m ∷ [])) ms, length-append vs (next_derivative vs m ∷ []))
 
@@ -161,6 +162,10 @@ at_place_past : (i : ℕ) (vs : List Element) → length vs ≤ i → at_place i
 at_place_past i [] h = refl
 at_place_past nat_zero (v ∷ vs) h = absurd (omega arith)
 at_place_past (suc i) (v ∷ vs) h = at_place_past i vs (omega arith)
+
+-- a variable past the end of the tower is a constant
+pub derivative-past : (tower : Tower) (n : ℕ) → length tower < n → derive_in tower (variable n) ≡ zero
+derivative-past tower n h = derive-variable (derivatives tower) n ∙ at_place_past n (derivatives tower) (omega (arith, length-derivatives_from (one ∷ []) tower))
 
 own_fields : (n : ℕ) (vs : List Element) → InOwnField vs → DerivativesIn n vs
 own_fields n vs h i k = by (dec_lt i (length vs))

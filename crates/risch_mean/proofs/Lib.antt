@@ -9,6 +9,7 @@ pub mod DerivationLaws
 pub mod LogarithmicDerivative
 pub mod Levels
 pub mod LevelKinds
+pub mod LongerTowers
 pub mod ConstantLaws
 pub mod DerivationUniqueness
 pub mod Sound

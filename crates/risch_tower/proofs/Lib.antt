@@ -1,3 +1,5 @@
-pub mod DerivationExamples
 pub mod RefusalSteps
 pub mod SameLevels
+pub mod TowerLevels
+pub mod Pushes
+pub mod PolynomialDerivatives

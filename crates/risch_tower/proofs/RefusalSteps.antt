@@ -1,15 +1,18 @@
 -- Steps of the rule of a push: a stop refuses it, and a value goes on. The rates after one more level.
 use Rattle.std.proofs.Common.{◌≡◌, ℕ, ◌-◌, List, [], ◌∷◌, ◌++◌, length, Result, Ok, refl, ◌∙◌, ap, arith}
-use Rattle.risch_elem.specs.Checked.{Checked, IsStopOf}
-use Rattle.risch_elem.specs.declared.Fail.{Fail}
-use Rattle.risch_elem.specs.declared.Fail.TheVariants.{Overflow, Size, Memory}
-use Rattle.risch_tower.specs.declared.rate.Rate.{Rate}
+use Rattle.risch_field.specs.Checked.{Checked, IsStopOf}
+use Rattle.risch_field.specs.declared.Fail.{Fail}
+use Rattle.risch_field.specs.declared.Fail.TheVariants.{Overflow, Size, Memory}
+use Rattle.risch_level.specs.Levels.{Element}
+use Rattle.risch_derivation.specs.Derivation.{Rates}
+use Rattle.risch_derivation.specs.declared.rate.Rate.{Rate}
+use Rattle.risch_element_theory.specs.ElementDerivation.{element_adjoined, element_constants}
 use Rattle.risch_tower.specs.declared.level.Level.{Level}
 use Rattle.risch_tower.specs.declared.level.Monomial.{Monomial}
 use Rattle.risch_tower.specs.declared.fault.PushFault as fault
 use Rattle.risch_tower.specs.declared.fault.PushFault.{PushFault}
 use Rattle.risch_tower.specs.declared.fault.PushFault.TheVariants.{TooHigh, ZeroArgument, ConstantArgument}
-use Rattle.risch_tower.specs.Tower.{fault_of, or_fault, Refuses, Answers, with_level, rates_from}
+use Rattle.risch_tower.specs.Tower.{fault_of, or_fault, Refuses, Answers, with_level, rate_of_x, rates_from, rates_of}
 
 pub stop_refuses : {A B : Type 0} (refusal : PushFault) (stop : Fail) (rule : Checked A) (next : A → Result B PushFault) →
     refusal ≡ fault_of stop → IsStopOf stop rule → Refuses refusal (or_fault rule next)
@@ -21,7 +24,7 @@ pub value_answers : {A B : Type 0} (result : Result B PushFault) (rule : Checked
     rule ≡ Ok a → Answers result (next a) → Answers result (or_fault rule next)
 value_answers result rule next a e h = rw e h
 
-pub refusal_stays : {F : Type 0} (levels : List (Level F)) (monomial : Monomial F) (refusal : PushFault) (rule : Result (Rate F) PushFault) →
+pub refusal_stays : (levels : List Level) (monomial : Monomial) (refusal : PushFault) (rule : Result (Rate Element) PushFault) →
     Refuses refusal rule → Refuses refusal (with_level levels monomial rule)
 refusal_stays levels monomial TooHigh rule h = rw h refl
 refusal_stays levels monomial ZeroArgument rule h = rw h refl
@@ -30,12 +33,15 @@ refusal_stays levels monomial (fault.TheVariants.Overflow op) rule h = rw h refl
 refusal_stays levels monomial fault.TheVariants.Size rule h = rw h refl
 refusal_stays levels monomial fault.TheVariants.Memory rule h = tt
 
-pub rates_of_one_more : {F R : Type 0} (adjoined : R → ℕ → Rate F → R) (rates : R) (down : ℕ) (levels : List (Level F)) (level : Level F) →
-    rates_from adjoined rates down (levels ++ level ∷ []) ≡ adjoined (rates_from adjoined rates down levels) (down - length levels) level.rate
-rates_of_one_more adjoined rates down [] level =
+pub rates_from_one_more : (rates : Rates 5) (down : ℕ) (levels : List Level) (level : Level) →
+    rates_from rates down (levels ++ level ∷ []) ≡ element_adjoined (rates_from rates down levels) (down - length levels) level.rate
+rates_from_one_more rates down [] level =
     let same : down ≡ down - 0 = omega arith in
-    ap (λ n. adjoined rates n level.rate) same
-rates_of_one_more adjoined rates down (l ∷ levels) level =
+    ap (λ (n : ℕ). element_adjoined rates n level.rate) same
+rates_from_one_more rates down (l ∷ levels) level =
     let less : down - 1 - length levels ≡ down - length (l ∷ levels) = omega arith in
-    rates_of_one_more adjoined (adjoined rates down l.rate) (down - 1) levels level ∙
-    ap (λ n. adjoined (rates_from adjoined (adjoined rates down l.rate) (down - 1) levels) n level.rate) less
+    rates_from_one_more (element_adjoined rates down l.rate) (down - 1) levels level ∙
+    ap (λ (n : ℕ). element_adjoined (rates_from (element_adjoined rates down l.rate) (down - 1) levels) n level.rate) less
+
+pub rates_of_one_more : (levels : List Level) (level : Level) → rates_of (levels ++ level ∷ []) ≡ element_adjoined (rates_of levels) (3 - length levels) level.rate
+rates_of_one_more levels level = rates_from_one_more (element_adjoined element_constants 4 rate_of_x) 3 levels level

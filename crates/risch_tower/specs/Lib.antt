@@ -1,3 +1,2 @@
-pub mod Derivation
-pub mod Rates
 pub mod Tower
+pub mod TowerMeaning

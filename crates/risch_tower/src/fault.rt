@@ -1,6 +1,6 @@
 //! Why a monomial is not pushed.
 
-use risch_elem::Fail;
+use risch_field::Fail;
 use risch_frac::Op;
 use std::alloc::{AllocError, AllocFailed};
 

@@ -1,31 +1,45 @@
 //! The monomials of a tower.
 
 ghost use Rattle.std.specs.Prelude.{◌≡◌, ◌++◌, IfOk, OnOk};
+ghost use Rattle.risch_element_theory.specs.WholeTower.{IsElement};
 ghost use Rattle.risch_tower.specs.Tower as spec;
 
-use crate::rate::Rate;
-use risch_elem::Arith;
+use risch_derivation::Rate;
+use risch_elem::Elem;
 use std::alloc::{AllocError, Global};
 
-/// A monomial over a field F.
+/// A monomial over the elements of a tower.
 #[derive(Drop)]
-pub enum Monomial<F> {
+pub enum Monomial {
     /// log a.
-    Log(F),
+    Log(Elem),
     /// exp a.
-    Exp(F),
+    Exp(Elem),
 }
 
 /// A monomial, and how it is derived.
 #[derive(Drop)]
-pub struct Level<F> {
-    pub monomial: Monomial<F>,
-    pub rate: Rate<F>,
+pub struct Level {
+    pub monomial: Monomial,
+    pub rate: Rate<Elem>,
 }
 
-impl<F: Arith> Monomial<F> {
+impl Monomial {
+    /// a.
+    pub fn argument(&self) -> &Elem
+        ensures value { result.now ≡ spec.argument self.now }
+        ensures normal { IsElement (spec.argument self.now) }
+    {
+        let argument = match self {
+            Monomial::Log(argument) => argument,
+            Monomial::Exp(argument) => argument,
+        };
+        let _ = argument.nest();
+        argument
+    }
+
     /// The monomial once more.
-    pub fn copy(&self, alloc: Global) -> Result<Monomial<F>, AllocError>
+    pub fn copy(&self, alloc: Global) -> Result<Monomial, AllocError>
         ensures { IfOk result (λ copy. copy ≡ self.now) }
     {
         match self {
@@ -35,8 +49,8 @@ impl<F: Arith> Monomial<F> {
     }
 
     /// Whether both are logarithms, or both exponentials, of the same.
-    pub fn same(&self, other: &Monomial<F>) -> bool
-        ensures { result ≡ spec.same_monomial F.ops self.now other.now }
+    pub fn same(&self, other: &Monomial) -> bool
+        ensures { result ≡ spec.same_monomial self.now other.now }
     {
         match self {
             Monomial::Log(a) => match other {
@@ -51,9 +65,9 @@ impl<F: Arith> Monomial<F> {
     }
 }
 
-impl<F: Arith> Level<F> {
+impl Level {
     /// The level once more.
-    pub fn copy(&self, alloc: Global) -> Result<Level<F>, AllocError>
+    pub fn copy(&self, alloc: Global) -> Result<Level, AllocError>
         ensures { IfOk result (λ copy. copy ≡ self.now) }
     {
         Ok(Level {
@@ -64,10 +78,10 @@ impl<F: Arith> Level<F> {
 }
 
 /// Appends the levels.
-pub(crate) fn push_copies<F: Arith>(
+pub(crate) fn push_copies(
     alloc: Global,
-    to: &mut Vec<Level<F>>,
-    from: &[Level<F>],
+    to: &mut Vec<Level>,
+    from: &[Level],
 ) -> Result<(), AllocError>
     ensures { OnOk result (to.new.items ≡ to.old.items ++ from.now) }
 {
@@ -78,8 +92,8 @@ pub(crate) fn push_copies<F: Arith>(
 }
 
 /// Whether there are as many levels, with the same monomials.
-pub(crate) fn same_levels<F: Arith>(left: &[Level<F>], right: &[Level<F>]) -> bool
-    ensures { result ≡ spec.same_levels F.ops left.now right.now }
+pub(crate) fn same_levels(left: &[Level], right: &[Level]) -> bool
+    ensures { result ≡ spec.same_levels left.now right.now }
 {
     if left.len() != right.len() {
         return false;

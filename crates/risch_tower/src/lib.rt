@@ -1,36 +1,22 @@
-//! The derivation of a tower of fields over Q (Bronstein, Symbolic Integration I, chapter 3).
-//!
-//! D of a fraction is 0. The variable t of each level is a monomial over the field E below: Dt = η, as for x and for a logarithm, or Dt = η·t, as for an
-//! exponential, with η in E. A [`Rate`] holds the kind and η of one level. [`Derive`] derives the elements of each field, from the rates of its levels, and
-//! [`derive_polynomial`] the polynomials over it.
+//! Towers of logarithms and exponentials over Q(x), and their derivation (Bronstein, Symbolic Integration I, chapter 3).
 //!
 //! A [`Tower`] is x and the logarithms and exponentials that were pushed above it, four at most. Its elements are those of a field of five levels, as
-//! [`Highest`]; the variables above its height count as constants.
+//! [`Elem`](risch_elem::Elem); the variables above its height count as constants.
 //!
-//! The rules are definitions: `specs/Derivation.antt` has the derivation, `specs/Rates.antt` how the rate of one level is set, and `specs/Tower.antt` what a push
-//! does. `proofs/DerivationExamples.antt` has values of the derivation. The contract of each call that can stop is `Agrees result rule`, or that with refusals: the
-//! answer is the value of the rule, or its stop or refusal, or want of memory, about which nothing is said. Other calls give their value exactly.
-//! [`derivation_is_by_height`] states that the derivation of the field of five levels is the definition by recursion on the height.
+//! The rules are definitions: `specs/Tower.antt` says what a push does, and `risch_derivation` has the derivation. The contract of each call that can stop is
+//! `Agrees result rule`, or that with refusals: the answer is the value of the rule, or its stop or refusal, or want of memory, about which nothing is said. Other
+//! calls give their value exactly.
 //!
-//! Not promised: what an element stands for, and so that D is a derivation; that the η of a monomial lies in the field below it, as it does where its argument does.
+//! What they mean: `specs/TowerMeaning.antt` says for which tower of `risch_mean` the monomials stand. Its derivation is that of [`Tower::derive`] and
+//! [`Tower::derive_poly`], [`Tower::push`] adds a monomial to it, and the kinds and η of the levels are its.
 #![tactic(auto)]
 
-mod derive;
-#[cfg(test)]
-mod element_tests;
 mod fault;
 mod level;
 mod levels;
-mod polynomial;
-mod rate;
-#[cfg(test)]
-mod tests;
 mod tower;
 
-pub use derive::Derive;
 pub use fault::PushFault;
 pub use level::{Level, Monomial};
-pub use levels::{Highest, derivation_is_by_height};
-pub use polynomial::derive_polynomial;
-pub use rate::{Kind, Rate};
+pub use risch_derivation::{Kind, Rate};
 pub use tower::{MOST_HEIGHT, Tower};

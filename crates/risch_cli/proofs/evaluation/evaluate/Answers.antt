@@ -1,5 +1,5 @@
 use Rattle.std.proofs.Common.{◌≡◌, ◌∙◌, sym, ap, subst}
-use Rattle.risch_elem.specs.Checked.{Agrees}
+use Rattle.risch_field.specs.Checked.{Agrees}
 use Rattle.risch_cli.specs.Evaluation as spec
 use Rattle.risch_cli.proofs.Evaluations.{result_of-steps}
 use Rattle.risch_cli.proofs.evaluation.evaluate.Goals as goal

@@ -3,4 +3,4 @@ use Rattle.risch_tower.specs.Tower as spec
 use Rattle.risch_tower.proofs.level.same_levels.Given as goal
 
 abbrev pub invariant-loop-i : goal.invariant-loop-i
-invariant-loop-i g l = spec.same_levels g.F.Arith.ops l.left l.right ≡ spec.same_levels g.F.Arith.ops (drop l.i l.left) (drop l.i l.right)
+invariant-loop-i l = spec.same_levels l.left l.right ≡ spec.same_levels (drop l.i l.left) (drop l.i l.right)

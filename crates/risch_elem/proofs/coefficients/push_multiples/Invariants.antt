@@ -1,7 +1,0 @@
-use Rattle.std.proofs.Common.{◌≡◌, ◌+◌, drop}
-use Rattle.risch_elem.specs.Poly as poly
-use Rattle.risch_elem.proofs.coefficients.push_multiples.Given as goal
-
-abbrev pub invariant-loop-i : goal.invariant-loop-i
-invariant-loop-i g l =
-    poly.multiples_onto g.E.Arith.ops l.fn.multiples.items 1 l.items ≡ poly.multiples_onto g.E.Arith.ops l.multiples.items (1 + l.i) (drop l.i l.items)

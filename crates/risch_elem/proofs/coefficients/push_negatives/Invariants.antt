@@ -1,6 +1,0 @@
-use Rattle.std.proofs.Common.{◌≡◌, ◌++◌, take}
-use Rattle.risch_elem.specs.Poly as poly
-use Rattle.risch_elem.proofs.coefficients.push_negatives.Given as goal
-
-abbrev pub invariant-loop-item : goal.invariant-loop-item
-invariant-loop-item g l = l.to.items ≡ l.fn.to.items ++ poly.negatives g.E.Arith.ops (take l.item-index l.from)

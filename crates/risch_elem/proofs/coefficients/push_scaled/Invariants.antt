@@ -1,7 +1,0 @@
-use Rattle.std.proofs.Common.{◌≡◌, drop}
-use Rattle.risch_elem.specs.Poly as poly
-use Rattle.risch_elem.proofs.coefficients.push_scaled.Given as goal
-
-abbrev pub invariant-loop-i : goal.invariant-loop-i
-invariant-loop-i g l =
-    poly.scaled_onto g.E.Arith.ops l.fn.scaled.items l.by l.items ≡ poly.scaled_onto g.E.Arith.ops l.scaled.items l.by (drop l.i l.items)

@@ -1,0 +1,5 @@
+use Rattle.risch_element_theory.proofs.ElementLaws.{any_quotient-is_element}
+use Rattle.risch_elem.proofs.elem.Elem.div.Goals as goal
+
+pub of-requires : goal.of-requires
+of-requires c = any_quotient-is_element _ _ _ c.self.invariant c.other.invariant c.in_ok-inner.ensures

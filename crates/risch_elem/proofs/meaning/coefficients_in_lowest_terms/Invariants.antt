@@ -1,7 +1,0 @@
-use Rattle.std.proofs.Common.{take}
-use Rattle.risch_frac.specs.Fraction.{IsLowest}
-use Rattle.risch_elem.specs.Meaning.{AllValid}
-use Rattle.risch_elem.proofs.meaning.coefficients_in_lowest_terms.Given as goal
-
-abbrev pub invariant-loop-coefficient : goal.invariant-loop-coefficient
-invariant-loop-coefficient l = AllValid IsLowest (take l.coefficient-index l.coefficient-items)

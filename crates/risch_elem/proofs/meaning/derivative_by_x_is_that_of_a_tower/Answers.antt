@@ -1,5 +1,0 @@
-use Rattle.risch_elem.proofs.Derivatives.{derivative-means}
-use Rattle.risch_elem.proofs.meaning.derivative_by_x_is_that_of_a_tower.Goals as goal
-
-pub returns : goal.returns
-returns c = derivative-means

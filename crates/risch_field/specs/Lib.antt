@@ -1,0 +1,4 @@
+pub mod Checked
+pub mod Ops
+pub mod Ground
+pub mod GroundLaws

@@ -1,0 +1,2 @@
+pub mod LiftedPolynomials
+pub mod VariablePolynomial

@@ -1,0 +1,3 @@
+pub mod CoefficientLists
+pub mod DivisionSteps
+pub mod ModularSteps

@@ -1,0 +1,4 @@
+pub mod Poly
+pub mod Polynomial
+pub mod Modular
+pub mod Negatives
