@@ -1,5 +1,5 @@
 #!/bin/sh
-# Times the built program: bench/run.sh [OTHER]
+# Times the built program, and the library of elements by the tables in bench/elements: bench/run.sh [OTHER]
 # It prints, for each input, the median and the least of 20 runs and the peak memory. With the path of another program
 # that takes the same words and input it prints the same of that one, and how many times its median this one's is.
 # It needs python3, and /usr/bin/time for the memory: without it that column is a dash.
@@ -13,7 +13,26 @@ command -v python3 >/dev/null || {
     echo "bench/run.sh: the program is not built: run $top/risch" >&2
     exit 1
 }
-exec python3 - "$top/crates/risch/out/risch" "$@" <<'END'
+rows=$top/crates/risch_element_rows/out/risch_element_rows
+
+# The program that plays the tables is built, and no source is newer.
+rows_are_built() {
+    [ -x "$rows" ] || return 1
+    newer=$(find "$top/crates.txt" "$top"/crates/*/src -newer "$rows") && [ -z "$newer" ]
+}
+
+# rt links a program only to run it, so it runs once, on its own table.
+build_rows() {
+    echo "bench/run.sh: building risch_element_rows, which is proved first" >&2
+    rm -f "$rows"
+    cd "$top/crates/risch_element_rows" && rt run <stdin >/dev/null
+}
+
+rows_are_built || (build_rows) || {
+    echo "bench/run.sh: risch_element_rows was not built, or its own table has differences" >&2
+    exit 1
+}
+exec python3 - "$top/crates/risch/out/risch" "$rows" "$top/bench/elements" "$@" <<'END'
 import os
 import statistics
 import subprocess
@@ -36,6 +55,13 @@ INPUTS = [
     ("a sum of 200 terms", ["integrate"], wide_sum()),
     ("1 MiB of blanks", ["integrate"], " " * 1_048_576),
 ]
+
+
+def tables(folder):
+    """The tables of the library of elements, with their names."""
+    for name in sorted(os.listdir(folder)):
+        with open(os.path.join(folder, name)) as table:
+            yield name, table.read()
 
 
 def run(command, text):
@@ -66,15 +92,22 @@ def row(name, figures, ratio=None):
     print(f"{name:<24}{status:>7}{1000 * median:>12.2f}{1000 * least:>12.2f}{memory:>12}{last}")
 
 
-def main(program, *others):
-    print(f"{'input':<24}{'status':>7}{'median ms':>12}{'least ms':>12}{'peak KiB':>12}"
-          + (f"{'ratio':>10}" if others else ""))
+def head(name, ratio=""):
+    print(f"{name:<24}{'status':>7}{'median ms':>12}{'least ms':>12}{'peak KiB':>12}{ratio:>10}".rstrip())
+
+
+def main(program, rows, folder, *others):
+    head("input", "ratio" if others else "")
     for name, words, text in INPUTS:
         here = measured(program, words, text)
         row(name, here)
         for other in others:
             there = measured(other, words, text)
             row("  " + os.path.basename(other), there, here[0] / there[0])
+    print()
+    head("table of elements")
+    for name, table in tables(folder):
+        row(name, measured(rows, [], table))
 
 
 main(*sys.argv[1:])

@@ -1,6 +1,6 @@
 -- What is said, whatever the words and the bytes are.
-use Rattle.std.proofs.Common.{◌≡◌, ◌≢◌, ℕ, ◌≤◌, List, [], length, nat_lt, refl, sym, ap, ◌∙◌, subst, arith, Option, Some, None, Bool, true, false, Ok, Err}
-use Rattle.std.proofs.lemmas.Bool.{cond_both, cond-true, cond-false, le-ltb}
+use Rattle.std.proofs.Common.{◌≡◌, ◌≢◌, ℕ, ◌≤◌, List, [], length, nat_lt, refl, sym, ap, ◌∙◌, subst, arith, Option, Some, None, true, false, Ok, Err}
+use Rattle.std.proofs.lemmas.Bool.{cond_both, le-ltb}
 use Rattle.std.specs.Prelude.{codes, cond}
 use Rattle.std.specs.Io.KnownBytes.{Appends}
 use Rattle.risch_frac.specs.Fraction.{Fraction}
@@ -23,8 +23,7 @@ use Rattle.risch_cli.specs.Meaning.{part_alone, IsSmall}
 use Rattle.risch_cli.specs.Saying.{IsSaid, said, is_command, usage, on_err, respond, report_of, outcome_for, status_of}
 use Rattle.risch_cli.specs.Telling.{IsAnswer, IsTold, TellsIntegral, HasSmallIntegrand}
 use Rattle.risch_cli.proofs.NumbersFit.{asked-fits}
-use Rattle.risch_cli.proofs.Standing.{at_x, Stands}
-use Rattle.risch_cli.proofs.EvaluationMeaning.{Means, evaluate-means}
+use Rattle.risch_cli.proofs.EvaluationMeaning.{evaluate-means}
 use Rattle.risch_cli.proofs.ProcedureMeaning.{answer-integral}
 use Rattle.risch_cli.proofs.SmallIntegrands.{small-integral}
 
@@ -174,3 +173,19 @@ pub small_report : (words : List (List ℕ)) (left : Option (List ℕ)) (report 
 small_report words left report h s =
     let same : s.bytes ≡ h.bytes = all-known left s.bytes h.bytes h.known s.all in
     ap (λ r. r.status) (s.said ∙ ap (said words) same) ∙ small_said words h.bytes h.tree h.integrand h.command h.short h.asked h.evaluated h.small
+
+-- ---- what is told where there is no report
+pub read_fault-not_zero : (code : ℕ) → (code ≢ 9 → code ≡ 8) → code ≡ 0 → ⊥
+read_fault-not_zero code told zero = let e : code ≡ 8 = told (λ n. absurd (omega arith)) in omega arith
+
+pub read_fault-no_answer : (code : ℕ) → (code ≢ 9 → code ≡ 8) → IsAnswer code → ⊥
+read_fault-no_answer code told a = a.not_read_fault (told a.not_write_fault)
+
+pub memory-not_zero : (code : ℕ) → (code ≢ 9 → code ≡ 10) → code ≡ 0 → ⊥
+memory-not_zero code told zero = let e : code ≡ 10 = told (λ n. absurd (omega arith)) in omega arith
+
+pub memory-no_read_fault : (code : ℕ) → (code ≢ 9 → code ≡ 10) → code ≡ 8 → ⊥
+memory-no_read_fault code told eight = let e : code ≡ 10 = told (λ n. absurd (omega arith)) in omega arith
+
+pub memory-no_answer : (code : ℕ) → (code ≢ 9 → code ≡ 10) → IsAnswer code → ⊥
+memory-no_answer code told a = a.not_memory (told a.not_write_fault)

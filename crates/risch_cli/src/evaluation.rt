@@ -12,7 +12,7 @@ use crate::program::{Operation, Step};
 use risch_field::{Arith, Fail};
 use risch_frac::Frac;
 use risch_polynomial::Poly;
-use std::alloc::{AllocError, Global};
+use std::alloc::Global;
 use std::marker::Model;
 
 /// Values, the last put on top.
@@ -56,40 +56,61 @@ impl Stack {
     fn apply(&mut self, alloc: Global, step: Step) -> Result<(), Fail>
         ensures { AgreesWith result self.new (spec.apply step self.old) }
     {
-        let value = match step {
-            Step::Number(number) => constant(alloc, number)?,
-            Step::Variable(_) => variable(alloc)?,
-            Step::Negated => {
-                let Some(value) = self.pop() else {
-                    return Ok(());
-                };
-                value.neg(alloc)?
-            }
-            Step::Joined(operation) => {
-                let (Some(right), Some(left)) = (self.pop(), self.pop()) else {
-                    return Ok(());
-                };
-                operate(alloc, operation, &left, &right)?
-            }
-            Step::Raised(exponent) => {
-                let Some(base) = self.pop() else {
-                    return Ok(());
-                };
-                power(alloc, &base, exponent)?
-            }
+        match step {
+            Step::Number(number) => self.put(constant(alloc, number)),
+            Step::Variable(_) => self.put(variable(alloc)),
+            Step::Negated => self.negate(alloc),
+            Step::Joined(operation) => self.join(alloc, operation),
+            Step::Raised(exponent) => self.raise(alloc, exponent),
+        }
+    }
+
+    /// Puts a value on the top, if it was formed.
+    fn put(&mut self, value: Result<Poly<Frac>, Fail>) -> Result<(), Fail>
+        ensures { AgreesWith result self.new (map_ok (spec.put self.old) value) }
+    {
+        self.push(value?)
+    }
+
+    /// The negative of the value on the top in its place.
+    fn negate(&mut self, alloc: Global) -> Result<(), Fail>
+        ensures { AgreesWith result self.new (spec.apply Step.Negated self.old) }
+    {
+        match self.pop() {
+            Some(value) => self.push(value.neg(alloc)?),
+            None => Ok(()),
+        }
+    }
+
+    /// The value of an operation on the two values on the top in their place.
+    fn join(&mut self, alloc: Global, operation: Operation) -> Result<(), Fail>
+        ensures { AgreesWith result self.new (spec.apply (Step.Joined operation) self.old) }
+    {
+        let (Some(right), Some(left)) = (self.pop(), self.pop()) else {
+            return Ok(());
         };
-        self.push(value)
+        self.put(operate(alloc, operation, &left, &right))
+    }
+
+    /// A power of the value on the top in its place.
+    fn raise(&mut self, alloc: Global, exponent: u16) -> Result<(), Fail>
+        ensures { AgreesWith result self.new (spec.apply (Step.Raised exponent) self.old) }
+    {
+        match self.pop() {
+            Some(base) => self.put(power(alloc, &base, exponent)),
+            None => Ok(()),
+        }
     }
 }
 
 /// c as a polynomial.
-fn constant(alloc: Global, number: Frac) -> Result<Poly<Frac>, AllocError>
-    ensures { IfOk result (λ it. it ≡ spec.constant number) }
+fn constant(alloc: Global, number: Frac) -> Result<Poly<Frac>, Fail>
+    ensures { Agrees result (Ok (spec.constant number)) }
 {
     if number.is_zero() {
         Ok(Poly::zero(alloc))
     } else {
-        Poly::constant(alloc, number)
+        Ok(Poly::constant(alloc, number)?)
     }
 }
 
@@ -146,7 +167,7 @@ fn divided_number(alloc: Global, value: Frac, divisor: Frac) -> Result<Poly<Frac
     ensures { Agrees result (map_ok spec.constant (ground.quotient value divisor)) }
 {
     let quotient = Arith::div(&value, alloc, &divisor)?;
-    Ok(constant(alloc, quotient)?)
+    constant(alloc, quotient)
 }
 
 /// p scaled by 1/c.
@@ -164,7 +185,7 @@ fn power(alloc: Global, base: &Poly<Frac>, exponent: u16) -> Result<Poly<Frac>, 
     ensures { Agrees result (spec.power_of base.now exponent) }
 {
     if exponent == 0 {
-        return Ok(constant(alloc, Frac::one())?);
+        return constant(alloc, Frac::one());
     }
     let mut value = base.copy(alloc)?;
     for _ in 1..exponent {

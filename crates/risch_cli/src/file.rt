@@ -87,20 +87,3 @@ fn next_divisor(divisor: bool, step: &Step) -> Option<bool>
         Step::Negated | Step::Joined(_) | Step::Raised(_) => Some(false),
     }
 }
-
-#[cfg(test)]
-mod tests {
-    use super::*;
-    use std::test::Fail;
-
-    #[test]
-    fn a_file_is_a_program(rt: HostRuntime) -> Result<(), Fail> {
-        let file = b" # a comment\n\nintegrate\t-(3 - x/02)^2\r\n#";
-        let steps = match read(rt.alloc(), file)? {
-            ReadFile::Problem(program) => program.as_slice().len(),
-            ReadFile::NotYet | ReadFile::Fault => 0,
-        };
-        assert_eq!(rt; steps, 7);
-        Ok(())
-    }
-}

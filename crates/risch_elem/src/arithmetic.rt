@@ -10,8 +10,8 @@ ghost use Rattle.risch_level.specs.Levels.{element};
 ghost use Rattle.risch_element_theory.specs.WholeTower.{meaning, Within};
 
 use crate::elem::Elem;
-use crate::nest;
 use risch_field::{Arith, Fail};
+use risch_nest::Nest;
 use std::alloc::{AllocError, Global};
 
 impl Elem {
@@ -21,7 +21,7 @@ impl Elem {
         ensures value { result ≡ element.is_zero self.now }
         ensures meaning { IsTrue result ↔ (meaning self.now ≡ zero) }
     {
-        nest::is_zero(&self.inner)
+        self.inner.is_zero()
     }
 
     /// Whether a = b in the field.
@@ -30,7 +30,7 @@ impl Elem {
         ensures value { result ≡ element.same self.now other.now }
         ensures meaning { IsTrue result ↔ (meaning self.now ≡ meaning other.now) }
     {
-        nest::same(&self.inner, &other.inner)
+        self.inner.same(&other.inner)
     }
 
     /// The weight, at most 65536: 1 of a fraction, the sum of the weights of n and m of a quotient n/m of polynomials, where the weight of a polynomial is the sum of those of its coefficients other than 0.
@@ -38,7 +38,7 @@ impl Elem {
         ensures value { result ≡ element.weight self.now }
         ensures small { result ≤ 65536 }
     {
-        nest::weight(&self.inner)
+        self.inner.weight()
     }
 
     /// a once more.
@@ -47,7 +47,7 @@ impl Elem {
     pub fn copy(&self, alloc: Global) -> Result<Elem, AllocError>
         ensures { IfOk result (λ copy. copy ≡ self.now) }
     {
-        let inner = nest::copy(alloc, &self.inner)?;
+        let inner = self.inner.copy(alloc)?;
         Ok(Elem::of(inner))
     }
 
@@ -60,7 +60,7 @@ impl Elem {
         ensures meaning { IfOk result (λ it. meaning it ≡ neg (meaning self.now)) }
         ensures within { (n : ℕ) → Within n self.now → IfOk result (λ it. Within n it) }
     {
-        let inner = nest::negative(alloc, &self.inner)?;
+        let inner = self.inner.neg(alloc)?;
         Ok(Elem::of(inner))
     }
 
@@ -73,7 +73,7 @@ impl Elem {
         ensures meaning { IfOk result (λ it. meaning it ≡ meaning self.now +ₑ meaning other.now) }
         ensures within { (n : ℕ) → Within n self.now → Within n other.now → IfOk result (λ it. Within n it) }
     {
-        let inner = nest::sum(alloc, &self.inner, &other.inner)?;
+        let inner = self.inner.add(alloc, &other.inner)?;
         Ok(Elem::of(inner))
     }
 
@@ -86,7 +86,7 @@ impl Elem {
         ensures meaning { IfOk result (λ it. meaning it ≡ meaning self.now *ₑ meaning other.now) }
         ensures within { (n : ℕ) → Within n self.now → Within n other.now → IfOk result (λ it. Within n it) }
     {
-        let inner = nest::product(alloc, &self.inner, &other.inner)?;
+        let inner = self.inner.mul(alloc, &other.inner)?;
         Ok(Elem::of(inner))
     }
 
@@ -101,7 +101,7 @@ impl Elem {
         ensures ratio { IfOk result (λ it. meaning it ≡ meaning self.now /ₑ meaning other.now) }
         ensures within { (n : ℕ) → Within n self.now → Within n other.now → IfOk result (λ it. Within n it) }
     {
-        let inner = nest::quotient(alloc, &self.inner, &other.inner)?;
+        let inner = self.inner.div(alloc, &other.inner)?;
         Ok(Elem::of(inner))
     }
 }
@@ -118,17 +118,17 @@ impl Arith for Elem {
 
     #[tactic(auto, using(risch_element_theory::proofs::ElementRules::constants))]
     fn zero() -> Elem {
-        Elem::of(nest::zero())
+        Elem::of(Nest::zero())
     }
 
     #[tactic(auto, using(risch_element_theory::proofs::ElementRules::constants))]
     fn one() -> Elem {
-        Elem::of(nest::one())
+        Elem::of(Nest::one())
     }
 
     #[tactic(auto, using(risch_element_theory::proofs::ElementRules::constants))]
     fn whole(n: u16) -> Elem {
-        Elem::of(nest::whole(n))
+        Elem::of(Nest::whole(n))
     }
 
     fn is_zero(&self) -> bool {
@@ -136,7 +136,7 @@ impl Arith for Elem {
     }
 
     fn is_one(&self) -> bool {
-        nest::is_one(&self.inner)
+        self.inner.is_one()
     }
 
     fn same(&self, other: &Elem) -> bool {
@@ -164,7 +164,7 @@ impl Arith for Elem {
     }
 
     fn div(&self, alloc: Global, other: &Elem) -> Result<Elem, Fail> {
-        let inner = nest::quotient(alloc, &self.inner, &other.inner)?;
+        let inner = self.inner.div(alloc, &other.inner)?;
         Ok(Elem::of(inner))
     }
 }

@@ -3,12 +3,8 @@
 ghost use Rattle.std.specs.Prelude.{◌≡◌};
 ghost use Rattle.risch_element_theory.specs.WholeTower.{IsElement};
 
-use risch_frac::Frac;
-use risch_level::Over;
+use risch_nest::Nest;
 use std::marker::Model;
-
-/// The field of five levels.
-pub type Nest = Over<Over<Over<Over<Over<Frac>>>>>;
 
 /// An element of the tower, in normal form at every level: a fraction in lowest terms, or n/m for coprime polynomials n and m in the variable of its level, m monic and with
 /// coefficients below that level, where the variable occurs in n or in m.

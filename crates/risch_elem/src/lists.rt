@@ -1,6 +1,6 @@
 //! Lists of fractions, elements and polynomials.
 
-ghost use Rattle.std.specs.Prelude.{◌≡◌, [], ◌∷◌, ◌++◌, length, OnOk, OnErr, option_to_list};
+ghost use Rattle.std.specs.Prelude.{◌≡◌, [], ◌∷◌, ◌++◌, length, None, IfOk, OnOk, OnErr, option_to_list};
 ghost use Rattle.std.specs.Borrow.{sem, Lends, Array};
 ghost use Rattle.risch_elem.specs.contracts.lists.Items.{the_row};
 ghost use Rattle.risch_elem.specs.Items.{with_items};
@@ -10,6 +10,33 @@ use crate::polynomial::Poly;
 use risch_frac::Frac;
 use std::alloc::{AllocError, Global};
 use std::marker::Model;
+
+/// A value that can be made once more.
+pub trait Copied: Drop {
+    /// The value once more.
+    ///
+    /// `Err(AllocError)` for want of memory alone.
+    fn copied(&self, alloc: Global) -> Result<Self, AllocError>
+        ensures { IfOk result (λ copy. copy ≡ self.now) };
+}
+
+impl Copied for Frac {
+    fn copied(&self, _alloc: Global) -> Result<Frac, AllocError> {
+        Ok(*self)
+    }
+}
+
+impl Copied for Elem {
+    fn copied(&self, alloc: Global) -> Result<Elem, AllocError> {
+        self.copy(alloc)
+    }
+}
+
+impl Copied for Poly {
+    fn copied(&self, alloc: Global) -> Result<Poly, AllocError> {
+        self.copy(alloc)
+    }
+}
 
 /// A list.
 #[derive(Drop)]
@@ -56,9 +83,10 @@ impl<T: Drop> Items<T> {
         Ok(())
     }
 
-    /// Takes the last item off.
+    /// Takes the last item off; `None` of the empty list.
     pub fn pop(&mut self) -> Option<T>
-        ensures { self.old ≡ self.new ++ option_to_list result }
+        ensures last { self.old ≡ self.new ++ option_to_list result }
+        ensures empty { result ≡ None → self.old ≡ [] }
     {
         self.items.pop()
     }
@@ -77,8 +105,15 @@ impl<T: Drop> Items<T> {
         self.items.as_slice()
     }
 
+    /// The list of these items.
+    pub fn from_vec(items: Vec<T>) -> Items<T>
+        ensures { result ≡ items.items }
+    {
+        Items { items }
+    }
+
     /// The items, of a list that is given away.
-    pub(crate) fn into_vec(self) -> Vec<T>
+    pub fn into_vec(self) -> Vec<T>
         ensures { result.items ≡ self }
     {
         self.items
@@ -90,5 +125,28 @@ impl<T: Drop> Items<T> {
         ensures value { result.now ≡ self.old }
     {
         self.items.as_mut_slice()
+    }
+}
+
+/// Appends the items once more.
+fn push_copies<T: Copied>(alloc: Global, to: &mut Items<T>, from: &[T]) -> Result<(), AllocError>
+    ensures { OnOk result (to.new ≡ to.old ++ from.now) }
+{
+    for item in from {
+        to.push(item.copied(alloc)?)?;
+    }
+    Ok(())
+}
+
+impl<T: Copied> Items<T> {
+    /// The list once more, with each of its items.
+    ///
+    /// `Err(AllocError)` for want of memory alone.
+    pub fn copy(&self, alloc: Global) -> Result<Items<T>, AllocError>
+        ensures { IfOk result (λ copy. copy ≡ self.now) }
+    {
+        let mut copy = Items::new(alloc);
+        push_copies(alloc, &mut copy, self.as_slice())?;
+        Ok(copy)
     }
 }

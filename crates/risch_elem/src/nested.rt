@@ -3,9 +3,9 @@
 ghost use Rattle.std.specs.Prelude.{◌≡◌, IfOk};
 ghost use Rattle.risch_element_theory.specs.WholeTower.{IsPolynomial};
 
-use crate::elem::Nest;
 use crate::parts::{unwrapped, wrapped};
 use crate::polynomial::Poly;
+use risch_nest::Nest;
 use std::alloc::{AllocError, Global};
 
 impl Poly {
@@ -24,10 +24,10 @@ impl Poly {
     /// `Err` for want of memory alone.
     pub fn of_nested(
         alloc: Global,
-        nested: &risch_polynomial::Poly<Nest>,
+        nested: risch_polynomial::Poly<Nest>,
     ) -> Result<Poly, AllocError>
-        requires { IsPolynomial nested.now }
-        ensures { IfOk result (λ it. it ≡ nested.now) }
+        requires { IsPolynomial nested }
+        ensures { IfOk result (λ it. it ≡ nested) }
     {
         wrapped(alloc, nested)
     }

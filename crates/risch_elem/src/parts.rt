@@ -9,37 +9,33 @@ ghost use Rattle.risch_level.specs.Levels.{element};
 ghost use Rattle.risch_level.specs.Parts.{levels, denominator};
 ghost use Rattle.risch_element_theory.specs.WholeTower.{IsElement, IsPolynomial, meaning, value_of, Within, AllWithin};
 
-use crate::elem::{Elem, Nest};
+use crate::elem::Elem;
 use crate::polynomial::Poly;
 use risch_field::{Arith, Fail};
-use risch_level::{Denominator, Tower};
+use risch_nest::Nest;
 use std::alloc::{AllocError, Global};
 
 /// Appends p_0, p_1, .. as elements of the tower.
 #[tactic(auto, using(risch_element_theory::proofs::PartsRules::items))]
-fn push_wrapped(alloc: Global, to: &mut Vec<Elem>, from: &[Nest]) -> Result<(), AllocError>
-    requires { AllValid IsElement from.now }
-    ensures { OnOk result (to.new.items ≡ to.old.items ++ from.now) }
+fn push_wrapped(to: &mut Vec<Elem>, from: Vec<Nest>) -> Result<(), AllocError>
+    requires { AllValid IsElement from.items }
+    ensures { OnOk result (to.new.items ≡ to.old.items ++ from.items) }
 {
-    for item in from {
-        let inner = item.copy(alloc)?;
-        to.push(Elem::of(inner))?;
+    for nest in from {
+        to.push(Elem::of(nest))?;
     }
     Ok(())
 }
 
 /// The same polynomial over the elements of the tower.
-#[tactic(auto, using(risch_element_theory::proofs::PartsRules::items), unfolding(risch_level::specs::Levels::element))]
-pub(crate) fn wrapped(
-    alloc: Global,
-    from: &risch_polynomial::Poly<Nest>,
-) -> Result<Poly, AllocError>
-    requires { IsPolynomial from.now }
-    ensures { IfOk result (λ it. it ≡ from.now) }
+#[tactic(auto, using(risch_element_theory::proofs::PartsRules::items))]
+pub(crate) fn wrapped(alloc: Global, from: risch_polynomial::Poly<Nest>) -> Result<Poly, AllocError>
+    requires { IsPolynomial from }
+    ensures { IfOk result (λ it. it ≡ from) }
 {
-    let mut coefficients = Vec::new(alloc);
-    push_wrapped(alloc, &mut coefficients, from.coefficients())?;
     let weight = from.kept_weight();
+    let mut coefficients = Vec::new(alloc);
+    push_wrapped(&mut coefficients, from.into_coefficients())?;
     let inner = risch_polynomial::Poly::kept(coefficients, weight);
     Ok(Poly::kept(inner))
 }
@@ -56,7 +52,6 @@ fn push_unwrapped(alloc: Global, to: &mut Vec<Nest>, from: &[Elem]) -> Result<()
 }
 
 /// The same polynomial over the field of five levels.
-#[tactic(auto, unfolding(risch_level::specs::Levels::element))]
 pub(crate) fn unwrapped(
     alloc: Global,
     from: &Poly,
@@ -64,47 +59,10 @@ pub(crate) fn unwrapped(
     ensures value { IfOk result (λ it. it ≡ from.now) }
     ensures normal { IsPolynomial from.now }
 {
+    let weight = from.inner.kept_weight();
     let mut coefficients = Vec::new(alloc);
     push_unwrapped(alloc, &mut coefficients, from.inner.coefficients())?;
-    let weight = from.inner.kept_weight();
     Ok(risch_polynomial::Poly::kept(coefficients, weight))
-}
-
-/// The numerator at a level.
-#[tactic(auto, unfolding(risch_level::specs::Levels::element))]
-fn numerator_at(
-    alloc: Global,
-    nest: &Nest,
-    level: u8,
-) -> Result<risch_polynomial::Poly<Nest>, AllocError>
-    requires { level < 5 }
-    ensures { IfOk result (λ it. it ≡ (levels 5).numerator (4 - level) nest.now) }
-{
-    nest.numerator(alloc, 4 - level)
-}
-
-/// The denominator at a level.
-#[tactic(auto, unfolding(risch_level::specs::Levels::element))]
-fn denominator_at(
-    alloc: Global,
-    nest: &Nest,
-    level: u8,
-) -> Result<risch_polynomial::Poly<Nest>, AllocError>
-    requires { level < 5 }
-    ensures { IfOk result (λ it. it ≡ denominator 5 (4 - level) nest.now) }
-{
-    nest.denominator(alloc, 4 - level)
-}
-
-/// n/m at a level.
-#[tactic(auto, unfolding(risch_level::specs::Levels::element))]
-fn quotient_at(alloc: Global, level: u8, num: &Poly, den: &Poly) -> Result<Nest, Fail>
-    requires { level < 5 }
-    ensures { Agrees result ((levels 5).quotient (4 - level) num.now den.now) }
-{
-    let num = unwrapped(alloc, num)?;
-    let den = unwrapped(alloc, den)?;
-    Nest::quotient(alloc, 4 - level, &num, &den)
 }
 
 impl Elem {
@@ -118,8 +76,8 @@ impl Elem {
         ensures meaning { Within (level + 1) self.now → IfOk result (λ it. meaning self.now ≡ value_of it (variable level) /ₑ value_of (denominator 5 (4 - level) self.now) (variable level)) }
         ensures within { Within (level + 1) self.now → IfOk result (λ it. AllWithin level it) }
     {
-        let numerator = numerator_at(alloc, &self.inner, level)?;
-        wrapped(alloc, &numerator)
+        let numerator = self.inner.numerator(alloc, level)?;
+        wrapped(alloc, numerator)
     }
 
     /// The denominator at a level, over the elements below it, which is monic; 1 for an element above the level.
@@ -134,8 +92,8 @@ impl Elem {
         ensures meaning { Within (level + 1) self.now → IfOk result (λ it. meaning self.now ≡ value_of ((levels 5).numerator (4 - level) self.now) (variable level) /ₑ value_of it (variable level)) }
         ensures within { Within (level + 1) self.now → IfOk result (λ it. AllWithin level it) }
     {
-        let denominator = denominator_at(alloc, &self.inner, level)?;
-        wrapped(alloc, &denominator)
+        let denominator = self.inner.denominator(alloc, level)?;
+        wrapped(alloc, denominator)
     }
 
     /// n/m at a level in normal form, for n and m over the elements below it and m other than 0.
@@ -151,9 +109,9 @@ impl Elem {
         ensures meaning { IfOk result (λ it. meaning it ≡ value_of num.now (variable level) /ₑ value_of den.now (variable level)) }
         ensures within { IfOk result (λ it. Within (level + 1) it) }
     {
-        num.known();
-        den.known();
-        let inner = quotient_at(alloc, level, num, den)?;
+        let num = unwrapped(alloc, num)?;
+        let den = unwrapped(alloc, den)?;
+        let inner = Nest::quotient(alloc, level, num, den)?;
         Ok(Elem::of(inner))
     }
 }

@@ -1,7 +1,7 @@
 //! Polynomials over the elements of a tower.
 
 ghost use Rattle.std.specs.Prelude.{◌≡◌, ◌≤◌, ◌<◌, ◌+◌, ◌↔◌, ℕ, Some, length, slice_get, IfOk, IfSome, IsTrue, IsFalse};
-ghost use Rattle.std.specs.Option.{option_copied};
+ghost use Rattle.std.specs.Option.{is_some, option_copied};
 ghost use Rattle.risch_univariate.specs.Polynomial.{coefficient};
 ghost use Rattle.risch_univariate.specs.Division.{IsCoprime};
 ghost use Rattle.risch_mean.specs.ElementField.{elements};
@@ -49,6 +49,18 @@ fn all_normal(elements: &[Elem])
     }
 }
 
+/// Whether only the first n variables occur in each element of a list.
+fn all_within(elements: &[Elem], n: u8) -> bool
+    ensures { IsTrue result ↔ AllWithin n elements.now }
+{
+    for element in elements {
+        if !element.is_within(n) {
+            return false;
+        }
+    }
+    true
+}
+
 impl Poly {
     /// The polynomial whose coefficients are known to be in normal form.
     pub(crate) fn kept(inner: risch_polynomial::Poly<Elem>) -> Poly
@@ -56,13 +68,6 @@ impl Poly {
         ensures { result ≡ inner }
     {
         Poly { inner }
-    }
-
-    /// The coefficients are in normal form, and the last one is not 0.
-    pub(crate) fn known(&self)
-        ensures { IsPolynomial self.now }
-    {
-        let _inner = &self.inner;
     }
 
     /// The polynomial with these coefficients from exponent 0, which is within the limits; those at the end that are 0 are dropped.
@@ -115,6 +120,13 @@ impl Poly {
         ensures meaning { IsTrue result ↔ (polynomial self.now ≡ polynomial other.now) }
     {
         self.inner.same(&other.inner)
+    }
+
+    /// Whether only the first n variables occur in the coefficients: whether they lie below level n.
+    pub fn is_within(&self, n: u8) -> bool
+        ensures { IsTrue result ↔ AllWithin n self.now }
+    {
+        all_within(self.inner.coefficients(), n)
     }
 
     /// The sum of the weights of the coefficients other than 0.
@@ -242,6 +254,18 @@ impl Poly {
     {
         let inner = self.inner.gcd(alloc, &other.inner)?;
         Ok(Poly::kept(inner))
+    }
+
+    /// Whether a and b are coprime, for a of degree at least 1.
+    ///
+    /// Stops: those of the inverse of b modulo a.
+    pub fn is_coprime(&self, alloc: Global, other: &Poly) -> Result<bool, Fail>
+        requires { 2 ≤ length self.now }
+        ensures rule { Agrees result (map_ok is_some (modular.inverse element other.now self.now)) }
+        ensures meaning { IfOk result (λ it. IsTrue it ↔ IsCoprime elements (polynomial self.now) (polynomial other.now)) }
+    {
+        let inverse = other.inverse_mod(alloc, self)?;
+        Ok(inverse.is_some())
     }
 
     /// i with i·b = 1 modulo a and deg i < deg a, for a of degree at least 1; None exactly where a and b are not coprime.

@@ -24,6 +24,7 @@ pub mod ElementWithin
 pub mod ElementParts
 pub mod PolynomialsWithin
 pub mod ElementPolynomialRules
+pub mod Coprimality
 pub mod ElementRules
 pub mod PartsRules
 pub mod DerivationPolynomials

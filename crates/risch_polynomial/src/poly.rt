@@ -165,6 +165,13 @@ impl<E: Arith> Poly<E> {
         self.coefficients.as_slice()
     }
 
+    /// p_0, p_1, .., p_n, of a polynomial that is given away.
+    pub fn into_coefficients(self) -> Vec<E>
+        ensures { result.items ≡ self }
+    {
+        self.coefficients
+    }
+
     /// p_e, where it is not 0.
     pub fn coefficient(&self, exponent: u16) -> Option<&E>
         ensures { option_copied result ≡ poly.nonzero E.ops (slice_get self.now exponent) }

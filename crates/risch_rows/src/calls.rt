@@ -1,6 +1,8 @@
 // How a source or a sink in memory answers its calls.
 ghost use Rattle.std.specs.Prelude.{◌≤◌};
 
+use crate::fault::Fault;
+use crate::value::{numbers, set};
 use risch_io::BytesSink;
 use std::alloc::{AllocError, Global};
 use std::num::NonZeroUsize;
@@ -14,9 +16,9 @@ const ROOM: usize = 65_536;
 /// What a case says of the calls.
 #[derive(Drop)]
 pub struct Calls {
-    pub piece: Option<NonZeroUsize>,
-    pub room: Option<usize>,
-    pub fails: Option<Vec<u64>>,
+    piece: Option<NonZeroUsize>,
+    room: Option<usize>,
+    fails: Option<Vec<u64>>,
 }
 
 impl Calls {
@@ -26,6 +28,21 @@ impl Calls {
             room: None,
             fails: None,
         }
+    }
+
+    /// Reads the most bytes of a call.
+    pub fn read_piece(&mut self, value: &str) -> Result<(), Fault> {
+        set(&mut self.piece, value.parse()?)
+    }
+
+    /// Reads for how many bytes there is room.
+    pub fn read_room(&mut self, value: &str) -> Result<(), Fault> {
+        set(&mut self.room, value.parse()?)
+    }
+
+    /// Reads the numbers of the calls that fail.
+    pub fn read_fails(&mut self, alloc: Global, value: &str) -> Result<(), Fault> {
+        set(&mut self.fails, numbers(alloc, value)?)
     }
 
     /// The most bytes of a call.

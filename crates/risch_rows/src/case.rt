@@ -4,7 +4,7 @@ use crate::escape::unescape;
 use crate::fault::Fault;
 use crate::outcome::Outcome;
 use crate::report::Report;
-use crate::value::{numbers, repeat, set, words};
+use crate::value::{repeat, set, words};
 use risch_cli::run_here;
 use risch_io::BytesSource;
 use std::alloc::{AllocError, Global};
@@ -46,14 +46,21 @@ impl Case {
             "out" => unescape(&mut self.out, value),
             "err" => unescape(&mut self.err, value),
             "status" => set(&mut self.status, value.parse()?),
-            "source-piece" => set(&mut self.source_calls.piece, value.parse()?),
-            "source-fails" => set(&mut self.source_calls.fails, numbers(alloc, value)?),
-            "out-piece" => set(&mut self.out_calls.piece, value.parse()?),
-            "out-room" => set(&mut self.out_calls.room, value.parse()?),
-            "out-fails" => set(&mut self.out_calls.fails, numbers(alloc, value)?),
-            "err-piece" => set(&mut self.err_calls.piece, value.parse()?),
-            "err-room" => set(&mut self.err_calls.room, value.parse()?),
-            "err-fails" => set(&mut self.err_calls.fails, numbers(alloc, value)?),
+            _ => self.read_calls(alloc, key, value),
+        }
+    }
+
+    // Reads a line that says how the source or a sink answers its calls.
+    fn read_calls(&mut self, alloc: Global, key: &str, value: &str) -> Result<(), Fault> {
+        match key {
+            "source-piece" => self.source_calls.read_piece(value),
+            "source-fails" => self.source_calls.read_fails(alloc, value),
+            "out-piece" => self.out_calls.read_piece(value),
+            "out-room" => self.out_calls.read_room(value),
+            "out-fails" => self.out_calls.read_fails(alloc, value),
+            "err-piece" => self.err_calls.read_piece(value),
+            "err-room" => self.err_calls.read_room(value),
+            "err-fails" => self.err_calls.read_fails(alloc, value),
             _ => Err(Fault::Key),
         }
     }
@@ -63,6 +70,17 @@ impl Case {
         let words = self.words.as_ref().ok_or(Fault::NoWords)?;
         let status = self.status.ok_or(Fault::NoStatus)?;
         let words: Vec<&str> = words.iter().map(|word| word.as_str()).collect(alloc)?;
+        Ok(self.run(alloc, &words, status, report)?)
+    }
+
+    // Runs the program on these words, and tells where it differs from what is expected and this status.
+    fn run(
+        &self,
+        alloc: Global,
+        words: &[&str],
+        status: u8,
+        report: &mut Report,
+    ) -> Result<(), AllocError> {
         let mut source = BytesSource::new(
             self.input.as_slice(),
             self.source_calls.piece(),
@@ -70,7 +88,7 @@ impl Case {
         );
         let mut out = self.out_calls.sink(alloc)?;
         let mut err = self.err_calls.sink(alloc)?;
-        let ended = run_here(alloc, &words, &mut source, &mut out, &mut err);
+        let ended = run_here(alloc, words, &mut source, &mut out, &mut err);
         let expected = Outcome {
             out: self.out.as_slice(),
             err: self.err.as_slice(),
@@ -81,7 +99,6 @@ impl Case {
             err: err.taken(),
             status: ended.code,
         };
-        report.compare(self.name.as_str(), &expected, &got)?;
-        Ok(())
+        report.compare(self.name.as_str(), &expected, &got)
     }
 }

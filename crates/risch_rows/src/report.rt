@@ -6,7 +6,7 @@ use crate::escape::Escaped;
 use crate::fault::Fault;
 use crate::outcome::{Differences, Outcome};
 use std::alloc::{AllocError, Global};
-use std::fmt::Display;
+use std::fmt;
 
 #[derive(Drop)]
 pub struct Report {
@@ -57,33 +57,50 @@ impl Report {
             self.old.differences < self.new.differences }
     {
         let found = Differences::between(expected, got);
+        if found.count() == 0 {
+            return Ok(());
+        }
         self.differences = self.differences.saturating_add(found.count());
+        self.tell_each(name, found, expected, got)
+    }
+
+    // Tells each of these differences.
+    fn tell_each(
+        &mut self,
+        name: &str,
+        found: Differences,
+        expected: &Outcome,
+        got: &Outcome,
+    ) -> Result<(), AllocError>
+        ensures cases { self.new.cases ≡ self.old.cases }
+        ensures differences { self.new.differences ≡ self.old.differences }
+    {
         if found.out {
-            self.tell(name, "out", Escaped(expected.out), Escaped(got.out))?;
+            self.tell(name, "out", Told::Bytes(expected.out), Told::Bytes(got.out))?;
         }
         if found.err {
-            self.tell(name, "err", Escaped(expected.err), Escaped(got.err))?;
+            self.tell(name, "err", Told::Bytes(expected.err), Told::Bytes(got.err))?;
         }
         if found.status {
-            self.tell(name, "status", expected.status, got.status)?;
+            self.tell(
+                name,
+                "status",
+                Told::Status(expected.status),
+                Told::Status(got.status),
+            )?;
         }
         Ok(())
     }
 
     // Tells one difference.
-    fn tell<T: Display + Drop>(
-        &mut self,
-        name: &str,
-        what: &str,
-        expected: T,
-        got: T,
-    ) -> Result<(), AllocError>
+    fn tell(&mut self, name: &str, what: &str, expected: Told, got: Told) -> Result<(), AllocError>
         ensures cases { self.new.cases ≡ self.old.cases }
         ensures differences { self.new.differences ≡ self.old.differences }
     {
-        writeln!(self.text, "case {name}: {what}")?;
-        writeln!(self.text, "  expected {expected}")?;
-        writeln!(self.text, "  got      {got}")
+        writeln!(
+            self.text,
+            "case {name}: {what}\n  expected {expected}\n  got      {got}"
+        )
     }
 
     /// Tells the counts.
@@ -97,5 +114,21 @@ impl Report {
             ..
         } = *self;
         writeln!(self.text, "{cases} cases, {differences} differences")
+    }
+}
+
+// What a run wrote to a sink, or its status.
+#[derive(Clone, Copy)]
+enum Told<'a> {
+    Bytes(&'a [u8]),
+    Status(u8),
+}
+
+impl fmt::Display for Told<'_> {
+    fn fmt<W: fmt::Write>(&self, f: &mut fmt::Formatter<W>) -> fmt::Result {
+        match self {
+            Told::Bytes(bytes) => write!(f, "{}", Escaped(bytes)),
+            Told::Status(status) => write!(f, "{status}"),
+        }
     }
 }

@@ -11,11 +11,7 @@ pub fn play(alloc: Global, table: &str) -> Result<Report, AllocError> {
         report: Report::new(alloc),
         block: None,
     };
-    for (number, line) in (1u64..).zip(table.lines()) {
-        player.line(number, line)?;
-    }
-    player.end_block()?;
-    player.report.end()?;
+    player.table(table)?;
     Ok(player.report)
 }
 
@@ -35,6 +31,14 @@ struct Block {
 }
 
 impl Player {
+    fn table(&mut self, table: &str) -> Result<(), AllocError> {
+        for (number, line) in (1u64..).zip(table.lines()) {
+            self.line(number, line)?;
+        }
+        self.end_block()?;
+        self.report.end()
+    }
+
     fn line(&mut self, number: u64, line: &str) -> Result<(), AllocError> {
         if line.starts_with('#') {
             return Ok(());
@@ -73,13 +77,16 @@ impl Player {
     // Runs the case that stands open, unless a line of it could not be read.
     fn end_block(&mut self) -> Result<(), AllocError> {
         match self.block.take() {
-            Some(block) if block.is_read => {
-                match block.case.play(self.alloc, &mut self.report) {
-                    Ok(()) => Ok(()),
-                    Err(fault) => self.report.refuse(block.number, &fault),
-                }
-            }
+            Some(block) if block.is_read => self.play(&block),
             _ => Ok(()),
+        }
+    }
+
+    // Runs the case of a block.
+    fn play(&mut self, block: &Block) -> Result<(), AllocError> {
+        match block.case.play(self.alloc, &mut self.report) {
+            Ok(()) => Ok(()),
+            Err(fault) => self.report.refuse(block.number, &fault),
         }
     }
 }

@@ -1,4 +1,7 @@
 // The comparison itself, and what is told of a table that can't be read.
+mod outside;
+mod run;
+
 use crate::table::play;
 use std::test::Fail;
 

@@ -3,3 +3,4 @@ pub mod SameLevels
 pub mod TowerLevels
 pub mod Pushes
 pub mod PolynomialDerivatives
+pub mod LevelPlaces

@@ -13,7 +13,7 @@
 
 mod fault;
 mod level;
-mod levels;
+mod rates;
 mod tower;
 
 pub use fault::PushFault;

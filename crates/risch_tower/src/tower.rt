@@ -15,10 +15,11 @@ ghost use Rattle.risch_tower.specs.declared.fault.PushFault.TheVariants.{TooHigh
 
 use crate::fault::PushFault;
 use crate::level::{Level, Monomial, push_copies, same_levels};
-use crate::levels::{Rates, adjoin, constants, copy_rates, derive, derive_polynomial, opened};
-use risch_derivation::{Kind, Rate};
+use crate::rates::{adjoin, opened};
+use risch_derivation::{Derive, Kind, Rate, derive_polynomial};
 use risch_elem::{Elem, Poly};
 use risch_field::{Arith, Fail};
+use risch_nest::{Nest, NestRates};
 use std::alloc::{AllocError, Global};
 use std::marker::Model;
 
@@ -32,7 +33,7 @@ pub const MOST_HEIGHT: u8 = 4;
 pub struct Tower {
     x: Rate<Elem>,
     levels: Vec<Level>,
-    rates: Rates,
+    rates: NestRates,
 }
 
 impl Model for Tower {
@@ -118,7 +119,7 @@ impl Tower {
     pub fn new(alloc: Global) -> Tower
         ensures { result ≡ [] }
     {
-        let mut rates = constants();
+        let mut rates = Nest::constants();
         adjoin(&mut rates, 4, rate_of_x());
         Tower {
             x: rate_of_x(),
@@ -194,7 +195,7 @@ impl Tower {
         Ok(Tower {
             x: self.x.copy(alloc)?,
             levels,
-            rates: copy_rates(alloc, &self.rates)?,
+            rates: Nest::copy_rates(alloc, &self.rates)?,
         })
     }
 
@@ -207,7 +208,7 @@ impl Tower {
         ensures meaning { IfOk result (λ d. meaning d ≡ derive_in (monomials self.now) (meaning element.now)) }
         ensures within { (n : ℕ) → Within n element.now → IfOk result (λ d. Within n d) }
     {
-        let derivative = derive(alloc, &self.rates, element.nest())?;
+        let derivative = element.nest().derive(alloc, &self.rates)?;
         Ok(Elem::of(derivative))
     }
 
@@ -223,7 +224,7 @@ impl Tower {
         let rate = opened(self.rate(level).copy(alloc)?);
         let nested = poly.nested(alloc)?;
         let derivative = derive_polynomial(alloc, &self.rates, &rate, &nested)?;
-        Ok(Poly::of_nested(alloc, &derivative)?)
+        Ok(Poly::of_nested(alloc, derivative)?)
     }
 
     /// Adds a level for log a or exp a, where a lies in the tower.

@@ -1,5 +1,5 @@
-use Rattle.std.proofs.Common.{◌≡◌, ◌++◌, take}
+use Rattle.std.proofs.Common.{◌≡◌, ◌++◌}
 use Rattle.risch_elem.proofs.parts.push_wrapped.Given as goal
 
-abbrev pub invariant-loop-item : goal.invariant-loop-item
-invariant-loop-item l = l.to.items ≡ l.fn.to.items ++ take l.item-index l.from
+abbrev pub invariant-loop-nest : goal.invariant-loop-nest
+invariant-loop-nest l = l.to.items ≡ l.fn.to.items ++ l.yielded

@@ -1,6 +1,6 @@
 use Rattle.std.proofs.Common.{◌≡◌, suc, ◌+◌, ◌-◌, arith}
 use Rattle.risch_cli.specs.Grammar.{power_in, term_in, sum_sign, product_sign}
-use Rattle.risch_cli.proofs.Chains.{joined_begin, joined_more}
+use Rattle.risch_cli.proofs.Chains.{joined_begin, joined_more, joined_done}
 use Rattle.risch_cli.proofs.Rules.{sum_in_is, term_in_is}
 use Rattle.risch_cli.proofs.reading.Parser.+grammar.Goals as goal
 
@@ -27,3 +27,13 @@ term-loop-turn-preserved t c =
     let falls : left ≡ suc below = omega arith in
     rw c.in_ok-write.ensures.words
     (joined_more _ product_sign (power_in c.args.open_left) left below _ _ _ _ _ _ _ c.in-Some.operation c.loop-turn.invariant falls c.in-Some.ensures c.in_ok-power-2.ensures.parsed c.in_ok-write.ensures.written)
+
+pub sum-returns-clause-parsed : goal.sum-returns-clause-parsed
+sum-returns-clause-parsed t c =
+    let none : c.len-turn-end.result - c.loop-turn._turn ≡ 0 = omega arith in
+    joined_done _ sum_sign (term_in c.args.open_left) _ _ _ _ c.loop-turn.invariant none
+
+pub term-returns-clause-parsed : goal.term-returns-clause-parsed
+term-returns-clause-parsed t c =
+    let none : c.len-turn-end.result - c.loop-turn._turn ≡ 0 = omega arith in
+    joined_done _ product_sign (power_in c.args.open_left) _ _ _ _ c.loop-turn.invariant none

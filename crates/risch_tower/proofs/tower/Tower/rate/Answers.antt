@@ -1,8 +1,9 @@
-use Rattle.std.proofs.Common.{◌+◌, ◌-◌, ◌≡◌, length, ap, arith}
+use Rattle.std.proofs.Common.{◌+◌, ◌-◌, ◌≡◌, length, slice_index_or, ap, arith}
 use Rattle.risch_mean.specs.Tower.{primitive}
 use Rattle.risch_element_theory.proofs.ElementWithin.{one-element-within}
 use Rattle.risch_element_theory.proofs.ElementDerivation.{one-stands}
 use Rattle.risch_tower.specs.TowerMeaning.{monomials}
+use Rattle.risch_tower.proofs.LevelPlaces.{rate-there}
 use Rattle.risch_tower.proofs.TowerLevels.{level-there, kind-there}
 use Rattle.risch_tower.proofs.tower.Tower.rate.Goals as goal
 
@@ -11,6 +12,13 @@ returns-then-level-eq0-clause-within c = rw c.self.invariant.0 (one-element-with
 
 pub returns-then-level-eq0-clause-means : goal.returns-then-level-eq0-clause-means
 returns-then-level-eq0-clause-means c = rw (c.self.invariant.0, c.if-level-eq0.true) (ap primitive one-stands)
+
+pub returns-clause-value : goal.returns-clause-value
+returns-clause-value c =
+    let levels = c.self.inside.levels.items in
+    let same : length levels ≡ length c.args.self.now = ap length c.self.view_is in
+    let there : c.index.result.now ≡ slice_index_or levels (c.args.level - 1) c.index.result.now = rw (← c.from.ensures) c.index.ensures in
+    rw (← c.self.view_is) (rate-there levels c.args.level c.index.result.now (omega arith) (omega arith) there)
 
 pub returns-clause-within : goal.returns-clause-within
 returns-clause-within c =

@@ -1,5 +1,5 @@
 // What no clause says: a run that gave up for want of memory would meet them all.
-use crate::run_here;
+use risch_cli::run_here;
 use risch_io::{BytesSink, BytesSource};
 use std::test::Fail;
 

@@ -1,0 +1,40 @@
+// The conditions of calls that the library has no test for.
+ghost use Rattle.std.specs.Prelude.{◌≡◌, ◌≤◌, length, IsTrue};
+ghost use Rattle.risch_polynomial.specs.Poly as poly;
+ghost use Rattle.risch_level.specs.Levels.{element};
+
+use risch_elem::{Elem, ElemList, Poly};
+
+/// Whether a polynomial has a degree of at least 1.
+pub fn is_modulus(polynomial: &Poly) -> bool
+    ensures { IsTrue result → 2 ≤ length polynomial.now }
+{
+    match polynomial.degree() {
+        None => false,
+        Some(degree) => degree > 0,
+    }
+}
+
+/// The sum of the weights of coefficients that are not 0, of at most 256.
+fn weigh(coefficients: &[Elem]) -> u32
+    requires { length coefficients.now ≤ 256 }
+    ensures { result ≡ poly.weight element coefficients.now }
+{
+    let mut weight = 0;
+    for coefficient in coefficients {
+        if !coefficient.is_zero() {
+            weight += coefficient.weight();
+        }
+    }
+    weight
+}
+
+/// Whether the polynomial with these coefficients is within the limits.
+#[tactic(auto, using(crate::proofs::Coefficients::trimmed_is_shorter))]
+pub fn are_coefficients(coefficients: &ElemList) -> bool
+    ensures degree { IsTrue result → length (poly.trimmed element coefficients.now) ≤ 256 }
+    ensures weight { IsTrue result → poly.weight element coefficients.now ≤ 65536 }
+{
+    let coefficients = coefficients.as_slice();
+    coefficients.len() <= 256 && weigh(coefficients) <= 65536
+}
