@@ -1,0 +1,12 @@
+pub mod Agreement
+pub mod Entries
+pub mod Examples
+pub mod NumberLemmas
+pub mod OptionTurns
+pub mod PlaceLemmas
+pub mod RequestLemmas
+pub mod Rules
+pub mod Runs
+pub mod Turns
+pub mod Uses
+pub mod WordKinds
