@@ -1,0 +1,13 @@
+pub mod Remainders
+pub mod Invertibles
+pub mod TraceRules
+pub mod TraceSteps
+pub mod ElementInvertibles
+pub mod AlgebraRules
+pub mod Conditions
+pub mod Agreement
+pub mod LogDerivatives
+pub mod SumDerivatives
+pub mod DerivativeWithin
+pub mod IntegralDerivatives
+pub mod IntegralSteps

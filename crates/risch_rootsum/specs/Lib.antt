@@ -1,0 +1,5 @@
+pub mod Traces
+pub mod Algebra
+pub mod AlgebraMeaning
+pub mod Derivative
+pub mod DerivativeMeaning
