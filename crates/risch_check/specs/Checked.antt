@@ -1,0 +1,64 @@
+-- The conditions on a certificate, in the order in which they are tested: those of the logarithms, line by line, and then that the derivative is the integrand.
+-- Left of a condition is what the certificate says or implies, right what it should be.
+use Rattle.std.specs.Prelude.{ℕ, ◌+◌, if◌then◌else◌, List, [], ◌∷◌, length, slice_index_or, codes}
+use Rattle.risch_frac.specs.Fraction.{Fraction}
+use Rattle.risch_field.specs.Checked.{Checked}
+use Rattle.risch_polynomial.specs.Poly as poly
+use Rattle.risch_level.specs.Levels.{Element, element}
+use Rattle.risch_tower.specs.declared.level.Level.{Level}
+use Rattle.risch_tower.specs.Tower.{derivative}
+use Rattle.risch_rootsum.specs.Algebra.{modulus}
+use Rattle.risch_rootsum.specs.Derivative.{is_linear, argument, derive_integral}
+use Rattle.risch_rootsum.specs.declared.integral.LogPart.{LogPart}
+use Rattle.risch_rootsum.specs.declared.integral.Integral.{Integral}
+use Rattle.risch_cert.specs.Printing.{print_element, print_in_z}
+use Rattle.risch_cert.specs.declared.answer.Certificate.{Certificate}
+use Rattle.risch_cert.specs.declared.answer.Certificate.TheVariants.{Integral as Certified}
+use Rattle.risch_check.specs.Verdict.{Verdict, accepted, refused, also, formed}
+
+-- g = 1
+abbrev pub checked_one : ℕ → List Element → Verdict
+checked_one line g = if poly.is_one element g then accepted else refused line (print_in_z g) (codes "1")
+
+-- gcd(p, q) = 1 over the polynomials in z
+unfoldable pub checked_coprime : ℕ → List Element → List Element → Verdict
+checked_coprime line p q = formed (poly.gcd element p q) (checked_one line)
+
+-- gcd(R, R') = 1
+unfoldable pub checked_separable : ℕ → List Fraction → Verdict
+checked_separable line R = formed (poly.partial element (modulus R)) (checked_coprime line (modulus R))
+
+-- of the sum over the roots z of R of z·log S(z): gcd(R, R') = 1, and then gcd(S, R) = 1
+unfoldable pub checked_sum : ℕ → LogPart → Verdict
+checked_sum line l = also (checked_separable line l.poly) (checked_coprime line (poly.trimmed element l.arg) (modulus l.poly))
+
+-- of C·log U: U ≠ 0
+unfoldable pub checked_logarithm : ℕ → LogPart → Verdict
+checked_logarithm line l = if element.is_zero (argument l) then refused line (codes "0") (codes "not 0") else accepted
+
+-- a logarithm where R has degree 1, else a sum
+abbrev pub checked_part : ℕ → LogPart → Verdict
+checked_part line l = if is_linear l then checked_logarithm line l else checked_sum line l
+
+-- the number of the line at a place of the certificate
+abbrev pub line_at : List ℕ → ℕ → ℕ
+line_at lines place = slice_index_or lines place 0
+
+-- each logarithm, the first of which stands at this place of the certificate
+abbrev pub checked_parts : List ℕ → ℕ → List LogPart → Verdict
+checked_parts lines place [] = accepted
+checked_parts lines place (l ∷ logs) = also (checked_part (line_at lines place) l) (checked_parts lines (place + 1) logs)
+
+-- the derivative of the integral is the integrand; D is the derivation of the tower
+unfoldable pub checked_derivative : (Element → Checked Element) → ℕ → Element → Integral → Verdict
+checked_derivative D line integrand it =
+    formed (derive_integral D it) (λ d. if element.same d integrand then accepted else refused line (print_element d) (print_element integrand))
+
+-- the logarithms stand behind the lines `integral` and `part`, and `end` behind them
+unfoldable pub checked_integral : List Level → Element → Integral → List ℕ → Verdict
+checked_integral levels integrand it lines =
+    also (checked_parts lines 2 it.logs) (checked_derivative (derivative levels) (line_at lines (length it.logs + 2)) integrand it)
+
+-- the conditions on a certificate with these line numbers
+abbrev pub checked : List Level → Element → Certificate → List ℕ → Verdict
+checked levels integrand (Certified it) lines = checked_integral levels integrand it lines
