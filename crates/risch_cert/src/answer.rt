@@ -48,19 +48,6 @@ pub enum Certificate {
     Integral(Integral),
 }
 
-/// The stop once more.
-fn copy_stop(alloc: Global, stop: &Stop) -> Result<Stop, AllocError>
-    ensures { IfOk result (λ copy. copy ≡ stop.now) }
-{
-    match stop {
-        Stop::Overflow(op) => Ok(Stop::Overflow(*op)),
-        Stop::Size => Ok(Stop::Size),
-        Stop::Case(case) => Ok(Stop::Case(*case)),
-        Stop::NotSound(element) => Ok(Stop::NotSound(element.copy(alloc)?)),
-        Stop::Budget => Ok(Stop::Budget),
-    }
-}
-
 impl Halt {
     /// What stops the run, and where, once more.
     ///
@@ -68,7 +55,7 @@ impl Halt {
     pub fn copy(&self, alloc: Global) -> Result<Halt, AllocError>
         ensures { IfOk result (λ copy. copy ≡ self.now) }
     {
-        let stop = copy_stop(alloc, &self.stop)?;
+        let stop = self.stop.copy(alloc)?;
         Ok(Halt {
             stop,
             place: self.place,

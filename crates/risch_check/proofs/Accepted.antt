@@ -41,7 +41,7 @@ use Rattle.risch_rootsum.specs.declared.integral.LogPart.{LogPart}
 use Rattle.risch_rootsum.specs.declared.integral.Integral.{Integral}
 use Rattle.risch_rootsum.proofs.Invertibles.{coprime_of_gcd}
 use Rattle.risch_rootsum.proofs.ElementInvertibles as ElementInvertibles
-use Rattle.risch_rootsum.proofs.TraceRules.{IsMonicWith}
+use Rattle.risch_trace.proofs.TraceRules.{IsMonicWith}
 use Rattle.risch_rootsum.proofs.AlgebraRules.{modulus-is_monic, length-below, trimmed_length}
 use Rattle.risch_cert.specs.Printing.{print_in_z}
 use Rattle.risch_check.specs.Verdict.{Verdict, accepted, refused, stopped, also, formed}

@@ -16,14 +16,11 @@ use crate::kinds::Check;
 use crate::logarithms::check_parts;
 use crate::normal::normal_integral;
 use risch_cert::{Certificate, print_elem};
-use risch_elem::{Elem, Items, Stop};
+use risch_elem::{Elem, NumberList, Stop};
 use risch_field::Fail;
 use risch_rootsum::{Integral, derive_integral};
 use risch_tower::Tower;
 use std::alloc::Global;
-
-/// A list of whole numbers.
-pub type NumberList = Items<u32>;
 
 /// The condition that the derivative of an integral that has one is the integrand.
 #[tactic(auto, using(crate::proofs::VerdictSteps::steps), unfolding(crate::specs::Checked::checked_derivative))]

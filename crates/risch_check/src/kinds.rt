@@ -2,7 +2,6 @@
 
 ghost use Rattle.std.specs.Prelude.{◌≡◌, IfOk};
 
-use crate::stops::copied_stop;
 use risch_elem::Stop;
 use risch_io::Text;
 use std::alloc::{AllocError, Global};
@@ -35,7 +34,7 @@ impl Check {
                 let right = right.copy(alloc)?;
                 Ok(Check::Refused { line, left, right })
             }
-            Check::Stopped(stop) => Ok(Check::Stopped(copied_stop(alloc, stop)?)),
+            Check::Stopped(stop) => Ok(Check::Stopped(stop.copy(alloc)?)),
             Check::Memory => Ok(Check::Memory),
         }
     }

@@ -17,8 +17,8 @@ mod logarithms;
 mod normal;
 mod polynomials;
 mod printing;
-mod stops;
 mod texts;
 
-pub use certificate::{NumberList, check};
+pub use certificate::check;
 pub use printing::print_check;
+pub use risch_elem::NumberList;

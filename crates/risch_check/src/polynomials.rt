@@ -11,6 +11,7 @@ ghost use Rattle.risch_check.specs.Checked as spec;
 use crate::fault::Fault;
 use crate::texts::text;
 use risch_cert::print_poly_in_z;
+use risch_division::gcd;
 use risch_elem::Elem;
 use risch_frac::Frac;
 use risch_polynomial::Poly;
@@ -80,6 +81,6 @@ pub(crate) fn check_coprime(
 ) -> Result<(), Fault>
     ensures { Gives result (spec.checked_coprime line left.now right.now) }
 {
-    let divisor = left.gcd(alloc, right)?;
+    let divisor = gcd(alloc, left, right)?;
     check_one(alloc, line, &divisor)
 }

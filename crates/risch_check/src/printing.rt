@@ -6,7 +6,6 @@ ghost use Rattle.risch_cert.specs.declared.answer.Place.TheVariants.{Checking};
 ghost use Rattle.risch_check.specs.Printing as spec;
 
 use crate::kinds::Check;
-use crate::stops::copied_stop;
 use crate::texts::text;
 use risch_cert::{Answer, Halt, Place, print_answer};
 use risch_elem::Stop;
@@ -48,7 +47,7 @@ fn print_refusal(alloc: Global, line: u32, left: &[u8], right: &[u8]) -> Result<
 fn print_stop(alloc: Global, stop: &Stop) -> Result<Text, AllocError>
     ensures { IfOk result (λ text. text ≡ answers.print_halt (record { stop = stop.now; place = Checking })) }
 {
-    let stop = copied_stop(alloc, stop)?;
+    let stop = stop.copy(alloc)?;
     let place = Place::Checking;
     print_answer(alloc, &Answer::Stopped(Halt { stop, place }))
 }

@@ -23,7 +23,7 @@ mod units;
 mod variables;
 
 pub use elem::Elem;
-pub use lists::{Copied, ElemList, FracList, Items, PolyList};
+pub use lists::{Copied, ElemList, FracList, Items, NumberList, PolyList};
 pub use polynomial::Poly;
 pub use risch_field::Fail;
 pub use risch_polynomial::MOST_DEGREE;

@@ -26,6 +26,12 @@ impl Copied for Frac {
     }
 }
 
+impl Copied for u32 {
+    fn copied(&self, _alloc: Global) -> Result<u32, AllocError> {
+        Ok(*self)
+    }
+}
+
 impl Copied for Elem {
     fn copied(&self, alloc: Global) -> Result<Elem, AllocError> {
         self.copy(alloc)
@@ -46,6 +52,9 @@ pub struct Items<T: Drop> {
 
 /// A list of fractions.
 pub type FracList = Items<Frac>;
+
+/// A list of whole numbers.
+pub type NumberList = Items<u32>;
 
 /// A list of elements.
 pub type ElemList = Items<Elem>;
@@ -148,5 +157,11 @@ impl<T: Copied> Items<T> {
         let mut copy = Items::new(alloc);
         push_copies(alloc, &mut copy, self.as_slice())?;
         Ok(copy)
+    }
+}
+
+impl<T: Copied> Copied for Items<T> {
+    fn copied(&self, alloc: Global) -> Result<Items<T>, AllocError> {
+        self.copy(alloc)
     }
 }

@@ -15,6 +15,7 @@ ghost use Rattle.risch_element_theory.specs.ElementPolynomials.{zero, ◌+ₚ◌
 
 use crate::elem::Elem;
 use crate::lists::ElemList;
+use risch_division::{div_rem, gcd, inverse_mod, solve_mod};
 use risch_field::Fail;
 use std::alloc::{AllocError, Global};
 use std::marker::Model;
@@ -63,11 +64,19 @@ fn all_within(elements: &[Elem], n: u8) -> bool
 
 impl Poly {
     /// The polynomial whose coefficients are known to be in normal form.
-    pub(crate) fn kept(inner: risch_polynomial::Poly<Elem>) -> Poly
+    pub fn kept(inner: risch_polynomial::Poly<Elem>) -> Poly
         requires { IsPolynomial inner }
         ensures { result ≡ inner }
     {
         Poly { inner }
+    }
+
+    /// The same polynomial by the arithmetic that is whole over every field.
+    pub fn inner(&self) -> &risch_polynomial::Poly<Elem>
+        ensures value { result.now ≡ self.now }
+        ensures normal { IsPolynomial self.now }
+    {
+        &self.inner
     }
 
     /// The polynomial with these coefficients from exponent 0, which is within the limits; those at the end that are 0 are dropped.
@@ -111,6 +120,13 @@ impl Poly {
         ensures meaning { IsTrue result ↔ (polynomial self.now ≡ zero) }
     {
         self.inner.is_zero()
+    }
+
+    /// Whether p = 1.
+    pub fn is_one(&self) -> bool
+        ensures { result ≡ poly.is_one element self.now }
+    {
+        self.inner.is_one()
     }
 
     /// Whether p = q.
@@ -236,7 +252,7 @@ impl Poly {
         ensures meaning { IfOk result (λ it. IsDivisionOf self.now by.now it) }
         ensures within { (n : ℕ) → AllWithin n self.now → AllWithin n by.now → IfOk result (λ it. AllWithin n it.0 × AllWithin n it.1) }
     {
-        let (quotient, rest) = self.inner.div_rem(alloc, &by.inner)?;
+        let (quotient, rest) = div_rem(alloc, &self.inner, &by.inner)?;
         let quotient = Poly::kept(quotient);
         let rest = Poly::kept(rest);
         Ok((quotient, rest))
@@ -252,7 +268,7 @@ impl Poly {
         ensures meaning { IfOk result (λ it. IsMonicGcd self.now other.now it) }
         ensures within { (n : ℕ) → AllWithin n self.now → AllWithin n other.now → IfOk result (λ it. AllWithin n it) }
     {
-        let inner = self.inner.gcd(alloc, &other.inner)?;
+        let inner = gcd(alloc, &self.inner, &other.inner)?;
         Ok(Poly::kept(inner))
     }
 
@@ -278,7 +294,7 @@ impl Poly {
         ensures meaning { IfOk result (λ it. IsInverseModulo self.now modulus.now it) }
         ensures within { (n : ℕ) → AllWithin n self.now → AllWithin n modulus.now → IfOk result (λ it. IfSome it (λ inverse. AllWithin n inverse)) }
     {
-        match self.inner.inverse_mod(alloc, &modulus.inner)? {
+        match inverse_mod(alloc, &self.inner, &modulus.inner)? {
             None => Ok(None),
             Some(inner) => Ok(Some(Poly::kept(inner))),
         }
@@ -295,7 +311,7 @@ impl Poly {
         ensures meaning { IfOk result (λ it. IsSolution a.now b.now c.now it) }
         ensures within { (n : ℕ) → AllWithin n a.now → AllWithin n b.now → AllWithin n c.now → IfOk result (λ it. AllWithin n it.0 × AllWithin n it.1) }
     {
-        match risch_polynomial::Poly::solve_mod(alloc, &a.inner, &b.inner, &c.inner)? {
+        match solve_mod(alloc, &a.inner, &b.inner, &c.inner)? {
             Some((left, right)) => {
                 let left = Poly::kept(left);
                 let right = Poly::kept(right);

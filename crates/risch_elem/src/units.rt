@@ -1,10 +1,12 @@
 //! The units of a run, and the answers of calls that count them.
 
-ghost use Rattle.std.specs.Prelude.{◌≡◌, ◌≤◌, ◌+◌, ◌↔◌, ℕ};
+ghost use Rattle.std.specs.Prelude.{◌≡◌, ◌≤◌, ◌+◌, ◌↔◌, ℕ, IfOk};
 ghost use Rattle.risch_elem.specs.Runs.{OnDone, OnLeft, OnReturn, IsBudget, IsUnitAnswer, Rose};
 
 use crate::elem::Elem;
+use crate::lists::Copied;
 use risch_frac::Op;
+use std::alloc::{AllocError, Global};
 
 /// What a run does not decide.
 #[derive(Clone, Copy, Debug, PartialEq, Eq)]
@@ -28,6 +30,29 @@ pub enum Stop {
     NotSound(Elem),
     /// A unit more than there may be.
     Budget,
+}
+
+impl Stop {
+    /// The stop once more.
+    ///
+    /// `Err` for want of memory alone.
+    pub fn copy(&self, alloc: Global) -> Result<Stop, AllocError>
+        ensures { IfOk result (λ copy. copy ≡ self.now) }
+    {
+        match self {
+            Stop::Overflow(op) => Ok(Stop::Overflow(*op)),
+            Stop::Size => Ok(Stop::Size),
+            Stop::Case(case) => Ok(Stop::Case(*case)),
+            Stop::NotSound(element) => Ok(Stop::NotSound(element.copy(alloc)?)),
+            Stop::Budget => Ok(Stop::Budget),
+        }
+    }
+}
+
+impl Copied for Stop {
+    fn copied(&self, alloc: Global) -> Result<Stop, AllocError> {
+        self.copy(alloc)
+    }
 }
 
 /// The answer of a call that counts units.

@@ -7,6 +7,7 @@ ghost use Rattle.risch_field.specs.Checked.{Agrees, map_ok};
 ghost use Rattle.risch_level.specs.Over as spec;
 ghost use Rattle.risch_level.specs.declared.over.Over.TheVariants.{Below, Quotient};
 
+use risch_division::{gcd, quo};
 use risch_field::{Arith, Fail};
 use risch_polynomial::Poly;
 use std::alloc::{AllocError, Global};
@@ -86,8 +87,8 @@ fn divided<E: Arith>(
     if divisor.is_one() {
         return Ok((num.copy(alloc)?, den.copy(alloc)?));
     }
-    let num = num.quo(alloc, divisor)?;
-    let den = den.quo(alloc, divisor)?;
+    let num = quo(alloc, num, divisor)?;
+    let den = quo(alloc, den, divisor)?;
     Ok((num, den))
 }
 
@@ -118,7 +119,7 @@ pub fn normal_form<E: Arith>(alloc: Global, num: Poly<E>, den: Poly<E>) -> Resul
     if den.is_one() {
         return element(num, den);
     }
-    let divisor = num.gcd(alloc, &den)?;
+    let divisor = gcd(alloc, &num, &den)?;
     let (num, den) = divided(alloc, &divisor, &num, &den)?;
     let (num, den) = scaled(alloc, num, den)?;
     element(num, den)

@@ -1,3 +1,1 @@
 pub mod CoefficientLists
-pub mod DivisionSteps
-pub mod ModularSteps

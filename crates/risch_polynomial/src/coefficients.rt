@@ -20,7 +20,7 @@ fn ends_in_zero<E: Arith>(coefficients: &[E]) -> bool
 }
 
 /// Drops the coefficients at the end that are 0.
-pub(crate) fn trim<E: Arith>(coefficients: &mut Vec<E>)
+pub fn trim<E: Arith>(coefficients: &mut Vec<E>)
     ensures shorter { vec_len coefficients.new ≤ vec_len coefficients.old }
     ensures value { coefficients.new.items ≡ poly.trimmed E.ops coefficients.old.items }
 {
@@ -59,7 +59,7 @@ pub(crate) fn same_items<E: Arith>(left: &[E], right: &[E]) -> bool
 }
 
 /// 0, 0, .., as many as `count`.
-pub(crate) fn zeros<E: Arith>(alloc: Global, count: usize) -> Result<Vec<E>, AllocError>
+pub fn zeros<E: Arith>(alloc: Global, count: usize) -> Result<Vec<E>, AllocError>
     ensures { IfOk result (λ zeros. zeros.items ≡ replicate count E.ops.zero) }
 {
     let mut zeros = Vec::new(alloc);
@@ -70,11 +70,7 @@ pub(crate) fn zeros<E: Arith>(alloc: Global, count: usize) -> Result<Vec<E>, All
 }
 
 /// Appends p_0, p_1, ..
-pub(crate) fn push_copies<E: Arith>(
-    alloc: Global,
-    to: &mut Vec<E>,
-    from: &[E],
-) -> Result<(), AllocError>
+pub fn push_copies<E: Arith>(alloc: Global, to: &mut Vec<E>, from: &[E]) -> Result<(), AllocError>
     ensures { OnOk result (to.new.items ≡ to.old.items ++ from.now) }
 {
     for item in from {
@@ -170,7 +166,7 @@ fn signed<E: Arith>(alloc: Global, minus: bool, term: E) -> Result<E, AllocError
 }
 
 /// Adds ±c·q_j to the coefficient at `from` + j, for j = 0, 1, ..
-pub(crate) fn add_row<E: Arith>(
+pub fn add_row<E: Arith>(
     alloc: Global,
     minus: bool,
     sums: &mut Vec<E>,

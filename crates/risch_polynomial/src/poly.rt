@@ -1,5 +1,5 @@
-//! Polynomials in one variable t over a field: sum, product, division with remainder, common divisor and derivative
-//! (Bronstein, Symbolic Integration I, sections 1.1 to 1.5).
+//! Polynomials in one variable t over a field: sum, product, multiple and derivative
+//! (Bronstein, Symbolic Integration I, section 1.1).
 
 ghost use Rattle.std.specs.Prelude.{◌≡◌, ◌≤◌, ◌<◌, ◌+◌, ◌∷◌, [], length, IfOk, IsTrue, IsFalse, ◌↔◌, slice_get};
 ghost use Rattle.std.specs.Option.{option_copied};
@@ -11,7 +11,6 @@ use crate::coefficients::{
     add_rows, push_copies, push_multiples, push_negatives, push_scaled, push_sums, same_items,
     trim, weigh, zeros,
 };
-use crate::division::divide;
 use risch_field::{Arith, Fail};
 use std::alloc::{AllocError, Global};
 use std::marker::Model;
@@ -42,33 +41,6 @@ impl<E: Arith> Model for Poly<E> {
     ghost view = { λ p. p.coefficients.items };
 
     ghost invariant = { λ p. IsPolynomial E.ops p.coefficients.items p.weight };
-}
-
-/// monic(a rem b).
-#[tactic(auto, using(risch_field::proofs::CheckedSteps::stop_passes, risch_field::proofs::CheckedSteps::value_passes), unfolding(crate::specs::Poly::monic_remainder))]
-fn monic_remainder<E: Arith>(alloc: Global, left: &Poly<E>, by: &Poly<E>) -> Result<Poly<E>, Fail>
-    ensures { Agrees result (poly.monic_remainder E.ops left.now by.now) }
-{
-    let (_, rest) = left.div_rem(alloc, by)?;
-    rest.monic(alloc)
-}
-
-/// The last of a, b, monic(a rem b), .. that is not 0.
-#[tactic(auto, using(crate::proofs::DivisionSteps::remainders_done, crate::proofs::DivisionSteps::remainders_more, crate::proofs::DivisionSteps::remainders_stop))]
-fn last_remainder<E: Arith>(alloc: Global, left: Poly<E>, right: Poly<E>) -> Result<Poly<E>, Fail>
-    ensures { Agrees result (poly.remainders E.ops (length right + 1) left right) }
-{
-    let mut left = left;
-    let mut right = right;
-    for _step in 0..right.coefficients().len() + 1 {
-        if right.is_zero() {
-            return Ok(left);
-        }
-        let next = monic_remainder(alloc, &left, &right)?;
-        left = right;
-        right = next;
-    }
-    Ok(left)
 }
 
 impl<E: Arith> Poly<E> {
@@ -317,38 +289,6 @@ impl<E: Arith> Poly<E> {
         Poly::from_coefficients(multiples)
     }
 
-    /// Quotient and remainder of p by q: p = quotient·q + remainder, where the remainder is 0 or of smaller degree than q.
-    ///
-    /// For q = 0 they are 0 and p. Stops: that of 1/lc(q) or of the first coefficient that cannot be formed; Size where a weight is
-    /// beyond its limit at the end.
-    #[tactic(auto, using(risch_field::proofs::CheckedSteps::stop_passes, risch_field::proofs::CheckedSteps::value_passes), unfolding(crate::specs::Poly::division))]
-    pub fn div_rem(&self, alloc: Global, by: &Poly<E>) -> Result<(Poly<E>, Poly<E>), Fail>
-        ensures { Agrees result (poly.division E.ops self.now by.now) }
-    {
-        if by.is_zero() {
-            return Ok((Poly::zero(alloc), self.copy(alloc)?));
-        }
-        let left = self.coefficients();
-        let right = by.coefficients();
-        let inverse = by.inverse_of_last(alloc)?;
-        let mut quotient = zeros(alloc, (left.len() + 1).saturating_sub(right.len()))?;
-        let mut rest = Vec::new(alloc);
-        push_copies(alloc, &mut rest, left)?;
-        divide(alloc, &mut quotient, &mut rest, &inverse, right)?;
-        let quotient = Poly::from_coefficients(quotient)?;
-        let rest = Poly::from_coefficients(rest)?;
-        Ok((quotient, rest))
-    }
-
-    /// The quotient of p by q.
-    #[tactic(auto, using(risch_field::proofs::CheckedSteps::stop_passes, risch_field::proofs::CheckedSteps::value_passes), unfolding(crate::specs::Poly::quo))]
-    pub fn quo(&self, alloc: Global, by: &Poly<E>) -> Result<Poly<E>, Fail>
-        ensures { Agrees result (poly.quo E.ops self.now by.now) }
-    {
-        let (quotient, _) = self.div_rem(alloc, by)?;
-        Ok(quotient)
-    }
-
     /// p/lc(p), and 0 for p = 0: u = 1/lc(p), then u·p_j for j = 0, 1, .. below deg p; the leading coefficient becomes 1 unformed.
     ///
     /// Stops: that of u or of the first coefficient that cannot be formed; Size where the weight is beyond its limit.
@@ -370,27 +310,6 @@ impl<E: Arith> Poly<E> {
         )?;
         scaled.push(E::one())?;
         Poly::from_coefficients(scaled)
-    }
-
-    /// The monic common divisor of p and q, not both 0, by Euclid's remainders, each made monic.
-    ///
-    /// Where p or q is a constant other than 0 it is 1 and no remainder is formed. Stops: those of the divisions.
-    #[tactic(auto, using(risch_field::proofs::CheckedSteps::stop_passes, risch_field::proofs::CheckedSteps::value_passes), unfolding(crate::specs::Poly::gcd))]
-    pub fn gcd(&self, alloc: Global, other: &Poly<E>) -> Result<Poly<E>, Fail>
-        ensures { Agrees result (poly.gcd E.ops self.now other.now) }
-    {
-        if other.is_zero() {
-            return self.monic(alloc);
-        }
-        if self.is_zero() {
-            return other.monic(alloc);
-        }
-        let left = self.monic(alloc)?;
-        let right = other.monic(alloc)?;
-        if left.is_one() || right.is_one() {
-            return Ok(Poly::one(alloc)?);
-        }
-        last_remainder(alloc, left, right)
     }
 
     /// The value of a constant polynomial.

@@ -28,14 +28,14 @@ use Rattle.risch_element_theory.proofs.ElementParts.{number-stands, number-eleme
 use Rattle.risch_element_theory.proofs.ElementPolynomials.{element_interprets, trimmed-is_polynomial, trimmed-stands, product-is_polynomial, product-stands as product-polynomial, inverse-stands}
 use Rattle.risch_element_theory.proofs.PolynomialRules as Rules
 use Rattle.risch_element_theory.proofs.PolynomialsWithin as Within
-use Rattle.risch_rootsum.specs.Traces as polynomials
+use Rattle.risch_trace.specs.Traces as polynomials
 use Rattle.risch_rootsum.specs.Algebra.{degree, IsModulus, IsMember, modulus, filled, inverse, product, trace}
 use Rattle.risch_rootsum.specs.AlgebraMeaning.{below, member, InverseMeans}
-use Rattle.risch_rootsum.proofs.Remainders as Remainders
+use Rattle.risch_trace.proofs.Remainders as Remainders
 use Rattle.risch_rootsum.proofs.Invertibles as Invertibles
 use Rattle.risch_rootsum.proofs.ElementInvertibles as ElementInvertibles
-use Rattle.risch_rootsum.proofs.TraceRules as TraceRules
-use Rattle.risch_rootsum.proofs.TraceRules.{IsMonicWith, meaning-zeros, filled-within, remainder-polynomial}
+use Rattle.risch_trace.proofs.TraceRules as TraceRules
+use Rattle.risch_trace.proofs.TraceRules.{IsMonicWith, meaning-zeros, filled-within, remainder-polynomial}
 
 -- ---- R over the elements
 one-nonzero : element.is_zero (number 5 ground.one) ≡ false

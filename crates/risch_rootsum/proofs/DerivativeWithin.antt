@@ -15,13 +15,13 @@ use Rattle.risch_element_theory.proofs.ElementParts.{number-element-within}
 use Rattle.risch_element_theory.proofs.ElementWithin.{zero-element-within, sum-element-within, product-element-within, quotient-element-within}
 use Rattle.risch_element_theory.proofs.PolynomialsWithin as Within
 use Rattle.risch_element_theory.proofs.PolynomialsWithin.{within-closed}
-use Rattle.risch_rootsum.specs.Traces.{raised, remainder, trace}
+use Rattle.risch_trace.specs.Traces.{raised, remainder, trace}
 use Rattle.risch_rootsum.specs.Algebra.{modulus}
 use Rattle.risch_rootsum.specs.Derivative.{is_linear, factor, argument, trace_of_product, sum_trace, derivatives_onto, coefficient_derivatives, log_derivative, sum_derivative, part_derivative, derivatives_from, derive_integral}
 use Rattle.risch_rootsum.specs.DerivativeMeaning.{IsLogPart}
 use Rattle.risch_rootsum.specs.declared.integral.LogPart.{LogPart}
 use Rattle.risch_rootsum.specs.declared.integral.Integral.{Integral}
-use Rattle.risch_rootsum.proofs.TraceRules as TraceRules
+use Rattle.risch_trace.proofs.TraceRules as TraceRules
 use Rattle.risch_rootsum.proofs.AlgebraRules.{modulus-within}
 
 -- the element at a place

@@ -16,9 +16,9 @@ use Rattle.risch_level.specs.Levels.{Element}
 use Rattle.risch_element_theory.specs.PolynomialMeaning.{polynomial_of}
 use Rattle.risch_element_theory.specs.WholeTower.{meaning, polynomial}
 use Rattle.risch_element_theory.specs.ElementPolynomials.{◌*ₚ◌, IsDerivative, IsMonicGcd}
-use Rattle.risch_rootsum.proofs.Remainders.{modulus_of}
+use Rattle.risch_trace.proofs.Remainders.{modulus_of}
 use Rattle.risch_rootsum.proofs.Invertibles as Invertibles
-use Rattle.risch_rootsum.proofs.TraceRules.{IsMonicWith, polynomial-modulus, remainder-polynomial}
+use Rattle.risch_trace.proofs.TraceRules.{IsMonicWith, polynomial-modulus, remainder-polynomial}
 
 module _ (d : List Element) (r : List mean.Element) (m : IsMonicWith d r) where
   -- where d divides v·s - 1, the remainder of v is the inverse of s

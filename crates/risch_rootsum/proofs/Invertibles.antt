@@ -17,8 +17,8 @@ use Rattle.risch_univariate.proofs.Gcd as Gcd
 use Rattle.risch_mean.specs.Univariate.{numbered, formal_derivative}
 use Rattle.risch_mean.specs.Algebra.{remainder, times_mod, with_leading_one, derivative_by_z, IsInverse, IsInvertible}
 use Rattle.risch_element_theory.proofs.Coprimality.{coprime_of_inverse}
-use Rattle.risch_rootsum.proofs.Remainders as Remainders
-use Rattle.risch_rootsum.proofs.Remainders.{modulus_of}
+use Rattle.risch_trace.proofs.Remainders as Remainders
+use Rattle.risch_trace.proofs.Remainders.{modulus_of}
 
 module _ {A : Type 0} (F : Field A) where
   module _ (r : List A) (some : 1 ≤ length r) where

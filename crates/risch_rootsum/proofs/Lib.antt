@@ -1,7 +1,4 @@
-pub mod Remainders
 pub mod Invertibles
-pub mod TraceRules
-pub mod TraceSteps
 pub mod ElementInvertibles
 pub mod AlgebraRules
 pub mod Conditions

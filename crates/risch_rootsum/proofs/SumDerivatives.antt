@@ -24,15 +24,15 @@ use Rattle.risch_level.specs.Levels.{Element, element}
 use Rattle.risch_element_theory.specs.PolynomialMeaning.{polynomial_of}
 use Rattle.risch_element_theory.specs.WholeTower.{IsElement, IsPolynomial, meaning, polynomial}
 use Rattle.risch_element_theory.proofs.ElementPolynomials.{element_interprets, trimmed-stands, product-is_polynomial, product-stands, inverse-stands}
-use Rattle.risch_rootsum.specs.Traces.{raised, remainder, trace}
+use Rattle.risch_trace.specs.Traces.{raised, remainder, trace}
 use Rattle.risch_rootsum.specs.Algebra.{IsModulus, IsMember, modulus}
 use Rattle.risch_rootsum.specs.AlgebraMeaning.{below}
 use Rattle.risch_rootsum.specs.Derivative.{trace_of_product}
 use Rattle.risch_rootsum.specs.DerivativeMeaning.{IsDerivativeOf}
-use Rattle.risch_rootsum.proofs.Remainders as Remainders
+use Rattle.risch_trace.proofs.Remainders as Remainders
 use Rattle.risch_rootsum.proofs.Invertibles as Invertibles
-use Rattle.risch_rootsum.proofs.TraceRules as TraceRules
-use Rattle.risch_rootsum.proofs.TraceRules.{IsMonicWith, remainder-polynomial}
+use Rattle.risch_trace.proofs.TraceRules as TraceRules
+use Rattle.risch_trace.proofs.TraceRules.{IsMonicWith, remainder-polynomial}
 use Rattle.risch_rootsum.proofs.ElementInvertibles as ElementInvertibles
 use Rattle.risch_rootsum.proofs.AlgebraRules.{modulus-is_monic, trimmed-kept, modulus-large}
 

@@ -8,7 +8,7 @@ use Rattle.risch_polynomial.specs.Poly as poly
 use Rattle.risch_polynomial.specs.Modular as modular
 use Rattle.risch_level.specs.Levels.{Element, element}
 use Rattle.risch_level.specs.Accessors.{number}
-use Rattle.risch_rootsum.specs.Traces as polynomials
+use Rattle.risch_trace.specs.Traces as polynomials
 
 -- m
 abbrev pub degree : List Fraction → ℕ

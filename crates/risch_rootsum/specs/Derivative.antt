@@ -8,7 +8,7 @@ use Rattle.risch_polynomial.specs.Poly as poly
 use Rattle.risch_polynomial.specs.Modular as modular
 use Rattle.risch_level.specs.Levels.{Element, element}
 use Rattle.risch_level.specs.Accessors.{number}
-use Rattle.risch_rootsum.specs.Traces.{raised, remainder, trace}
+use Rattle.risch_trace.specs.Traces.{raised, remainder, trace}
 use Rattle.risch_rootsum.specs.Algebra.{modulus}
 use Rattle.risch_rootsum.specs.declared.integral.LogPart.{LogPart}
 use Rattle.risch_rootsum.specs.declared.integral.Integral.{Integral}

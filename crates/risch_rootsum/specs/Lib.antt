@@ -1,4 +1,3 @@
-pub mod Traces
 pub mod Algebra
 pub mod AlgebraMeaning
 pub mod Derivative

@@ -2,21 +2,24 @@
 //!
 //! A member is a list of at most deg R elements, its coefficients from exponent 0; a shorter list stands for the one with zeros at the end.
 
-ghost use Rattle.std.specs.Prelude.{◌≡◌, ◌++◌, ℕ, length, map, IfOk, IfSome, OnOk};
+ghost use Rattle.std.specs.Prelude.{◌≡◌, ◌≤◌, ◌++◌, ℕ, length, map, IfOk, IfSome, OnOk};
 ghost use Rattle.risch_mean.specs.ElementPolynomials.{times_modulo, trace_modulo};
 ghost use Rattle.risch_field.specs.Checked.{Agrees};
+ghost use Rattle.risch_polynomial.specs.Poly as poly;
+ghost use Rattle.risch_level.specs.Levels.{element};
 ghost use Rattle.risch_polynomial_theory.specs.Meaning.{AllValid};
 ghost use Rattle.risch_element_theory.specs.WholeTower.{IsElement, meaning, Within, AllWithin};
 ghost use Rattle.risch_rootsum.specs.Algebra as spec;
 ghost use Rattle.risch_rootsum.specs.Algebra.{IsModulus, IsMember};
 ghost use Rattle.risch_rootsum.specs.AlgebraMeaning.{below, member, InverseMeans};
 
-use crate::elements::{all_normal, polynomial, push_zeros};
-use crate::traces::{remainder, trace as polynomial_trace};
+use risch_division::inverse_mod;
 use risch_elem::{Elem, ElemList, FracList};
 use risch_field::Fail;
 use risch_frac::Frac;
 use risch_polynomial::Poly;
+use risch_trace::elements::{all_normal, push_copies, push_zeros};
+use risch_trace::{remainder, trace as polynomial_trace};
 use std::alloc::{AllocError, Global};
 
 /// Appends the fractions as elements.
@@ -27,6 +30,18 @@ fn push_numbers(to: &mut Vec<Elem>, from: &[Frac]) -> Result<(), AllocError>
         to.push(Elem::num(*fraction))?;
     }
     Ok(())
+}
+
+/// The polynomial with these coefficients from exponent 0; those at the end that are 0 are dropped.
+#[tactic(auto, using(crate::proofs::AlgebraRules::trimmed_length))]
+pub(crate) fn polynomial(alloc: Global, from: &[Elem]) -> Result<Poly<Elem>, AllocError>
+    requires degree { length from.now ≤ 256 }
+    requires weight { poly.weight element from.now ≤ 65536 }
+    ensures { IfOk result (λ it. it ≡ poly.trimmed element from.now) }
+{
+    let mut coefficients = Vec::new(alloc);
+    push_copies(alloc, &mut coefficients, from)?;
+    Ok(Poly::trimmed(coefficients))
 }
 
 /// R over the elements.
@@ -67,7 +82,7 @@ pub fn inverse(alloc: Global, poly: &FracList, u: &ElemList) -> Result<Option<El
     all_normal(u.as_slice());
     let modulus = modulus(alloc, poly)?;
     let argument = polynomial(alloc, u.as_slice())?;
-    match argument.inverse_mod(alloc, &modulus)? {
+    match inverse_mod(alloc, &argument, &modulus)? {
         Some(inverse) => Ok(Some(filled(inverse, poly.len() - 1)?)),
         None => Ok(None),
     }

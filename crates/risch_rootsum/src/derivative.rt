@@ -13,15 +13,16 @@ ghost use Rattle.risch_tower.specs.TowerMeaning.{monomials};
 ghost use Rattle.risch_rootsum.specs.Derivative as spec;
 ghost use Rattle.risch_rootsum.specs.DerivativeMeaning.{sum_of, answer_of, IsLogPart, IsPartDerivative, IsDerivativeOf};
 
-use crate::algebra::modulus;
-use crate::elements::{all_normal, polynomial};
+use crate::algebra::{modulus, polynomial};
 use crate::integral::{Integral, LogPart};
-use crate::traces::{raised, remainder, trace};
+use risch_division::inverse_mod;
 use risch_elem::Elem;
 use risch_field::Fail;
 use risch_frac::Frac;
 use risch_polynomial::Poly;
 use risch_tower::Tower;
+use risch_trace::elements::all_normal;
+use risch_trace::{raised, remainder, trace};
 use std::alloc::Global;
 
 /// Appends D(s_0), D(s_1), ..
@@ -97,7 +98,7 @@ fn sum_derivative(alloc: Global, tower: &Tower, part: &LogPart) -> Result<Elem, 
     let derivative = coefficient_derivatives(alloc, tower, coefficients)?;
     let modulus = modulus(alloc, &part.poly)?;
     let argument = polynomial(alloc, coefficients)?;
-    match argument.inverse_mod(alloc, &modulus)? {
+    match inverse_mod(alloc, &argument, &modulus)? {
         Some(inverse) => trace_of_product(alloc, &modulus, &derivative, &inverse),
         None => unreachable!(),
     }

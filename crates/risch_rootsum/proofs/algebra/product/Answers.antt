@@ -3,7 +3,7 @@ use Rattle.risch_polynomial.specs.Poly as poly
 use Rattle.risch_polynomial_theory.specs.Meaning.{AllValid}
 use Rattle.risch_level.specs.Levels.{element}
 use Rattle.risch_element_theory.specs.WholeTower.{IsElement}
-use Rattle.risch_rootsum.specs.Traces.{remainder}
+use Rattle.risch_trace.specs.Traces.{remainder}
 use Rattle.risch_rootsum.specs.Algebra.{modulus, filled}
 use Rattle.risch_rootsum.proofs.AlgebraRules.{product-formed, product-stands, product-members, product-within}
 use Rattle.risch_rootsum.proofs.algebra.product.Goals as goal

@@ -1,6 +1,0 @@
-use Rattle.std.proofs.Common.{◌≡◌, ◌++◌, replicate}
-use Rattle.risch_level.specs.Levels.{element}
-use Rattle.risch_rootsum.proofs.elements.push_zeros.Given as goal
-
-abbrev pub invariant-loop-i : goal.invariant-loop-i
-invariant-loop-i l = l.to.items ≡ l.fn.to.items ++ replicate l._i element.zero
