@@ -1,0 +1,86 @@
+-- The trees of a file as the code keeps them: each expression by its steps.
+use Rattle.std.specs.Prelude.{◌≡◌, ℕ, suc, ◌+◌, Bool, true, false, List, [], ◌∷◌, map, length, All}
+use Rattle.risch_expression.specs.Tree.{Tree, IsOver}
+use Rattle.risch_expression.specs.Program.{steps}
+use Rattle.risch_expression.specs.declared.program.Step.{Step}
+use Rattle.risch_text.specs.File.{TowerLine, ProblemTree}
+use Rattle.risch_text.specs.Certified.{LogLine, log_line, sum_line, AnswerTree, CertifiedTree}
+use Rattle.risch_text.specs.declared.programs.TowerProgram.{TowerProgram}
+use Rattle.risch_text.specs.declared.programs.ProblemProgram.{ProblemProgram}
+use Rattle.risch_text.specs.declared.programs.LogProgram.{LogProgram}
+use Rattle.risch_text.specs.declared.programs.LogProgram.TheVariants.{Log, Sum}
+use Rattle.risch_text.specs.declared.programs.AnswerProgram.{AnswerProgram}
+use Rattle.risch_text.specs.declared.programs.CertifiedProgram.{CertifiedProgram}
+
+abbrev pub tower_program : TowerLine → TowerProgram
+tower_program l = record { exponential = l.exponential; argument = steps l.argument; left = l.left }
+
+abbrev pub problem_program : ProblemTree → ProblemProgram
+problem_program p = record { tower = map tower_program p.tower; integrand = steps p.integrand }
+
+-- each argument is an expression over the monomials of the lines above it, of which there are n counting x
+abbrev pub AreOver : ℕ → List TowerLine → Type 0
+AreOver n [] = Unit {0}
+AreOver n (l ∷ lines) = IsOver n false l.argument × AreOver (suc n) lines
+
+-- and the integrand is one over all of them
+pub record IsProblemOver (p : ProblemTree) : Type 0 where
+  pub tower : AreOver 1 p.tower
+  pub integrand : IsOver (length p.tower + 1) false p.integrand
+
+-- ---- the same of the steps
+-- the steps of an expression over the first n variables, and z where it may stand
+pub record IsProgramOver (n : ℕ) (with_z : Bool) (program : List Step) : Type 0 where
+  pub tree : Tree
+  pub written : program ≡ steps tree
+  pub over : IsOver n with_z tree
+
+-- each argument is one over the monomials of the lines above it
+abbrev pub AreProgramsOver : ℕ → List TowerProgram → Type 0
+AreProgramsOver n [] = Unit {0}
+AreProgramsOver n (l ∷ lines) = IsProgramOver n false l.argument × AreProgramsOver (suc n) lines
+
+-- and the integrand is one over all of them
+pub record IsProblemProgramOver (p : ProblemProgram) : Type 0 where
+  pub tower : AreProgramsOver 1 p.tower
+  pub integrand : IsProgramOver (length p.tower + 1) false p.integrand
+
+-- ---- answers
+abbrev pub log_program : LogLine → LogProgram
+log_program (log_line c u) = Log c (steps u)
+log_program (sum_line r s start) = Sum (steps r) (steps s) start
+
+abbrev pub answer_program : AnswerTree → AnswerProgram
+answer_program a = record { part = steps a.part; logs = map log_program a.logs; lines = a.lines }
+
+abbrev pub certified_program : CertifiedTree → CertifiedProgram
+certified_program t = record { problem = problem_program t.problem; answer = answer_program t.answer }
+
+-- the expressions of a logarithm are over the first n variables, and z where it may stand
+abbrev pub IsLogOver : ℕ → LogLine → Type 0
+IsLogOver n (log_line c u) = IsOver n false u
+IsLogOver n (sum_line r s start) = IsOver n true r × IsOver n true s
+
+-- all expressions of an answer are, and there is one number for each line
+pub record IsAnswerOver (n : ℕ) (a : AnswerTree) : Type 0 where
+  pub part : IsOver n false a.part
+  pub logs : All (IsLogOver n) a.logs
+  pub numbered : length a.lines ≡ length a.logs + 3
+
+pub record IsCertifiedOver (t : CertifiedTree) : Type 0 where
+  pub problem : IsProblemOver t.problem
+  pub answer : IsAnswerOver (length t.problem.tower + 1) t.answer
+
+-- ---- the same of the steps
+abbrev pub IsLogProgramOver : ℕ → LogProgram → Type 0
+IsLogProgramOver n (Log c u) = IsProgramOver n false u
+IsLogProgramOver n (Sum r s start) = IsProgramOver n true r × IsProgramOver n true s
+
+pub record IsAnswerProgramOver (n : ℕ) (a : AnswerProgram) : Type 0 where
+  pub part : IsProgramOver n false a.part
+  pub logs : All (IsLogProgramOver n) a.logs
+  pub numbered : length a.lines ≡ length a.logs + 3
+
+pub record IsCertifiedProgramOver (t : CertifiedProgram) : Type 0 where
+  pub problem : IsProblemProgramOver t.problem
+  pub answer : IsAnswerProgramOver (length t.problem.tower + 1) t.answer

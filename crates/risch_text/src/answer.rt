@@ -1,0 +1,191 @@
+//! The lines of a printed integral.
+
+ghost use Rattle.std.specs.Prelude.{◌≡◌, ◌+◌, ◌<◌, ◌≤◌, ◌^◌, [], ◌∷◌, ◌++◌, length, IfOk, IfErr, OnOk, OnErr};
+ghost use Rattle.risch_frac.specs.Fraction as fraction;
+ghost use Rattle.risch_expression.specs.Reading.{IsFaultOf};
+ghost use Rattle.risch_text.specs.Lines.{InFile};
+ghost use Rattle.risch_text.specs.Certified as spec;
+ghost use Rattle.risch_text.specs.Reading.{MovesTo, IsLogLine, IsNextLog, IsNextFault, AreLogLines, IsAnswerRead, IsWholeCertified};
+
+use crate::file::{monomials, problem_lines};
+use crate::lines::Lines;
+use crate::programs::{AnswerProgram, CertifiedProgram, Divisor, Factor, LogProgram, LogPrograms};
+use risch_elem::{Items, NumberList};
+use risch_expression::{Names, ReadFault, SyntaxFault};
+use risch_frac::Frac;
+use std::alloc::{AllocError, Global};
+
+/// x, so many monomials, and z.
+fn with_z(monomials: u8) -> Names
+    ensures { result ≡ spec.with_z monomials }
+{
+    Names {
+        monomials,
+        with_z: true,
+    }
+}
+
+/// A number, which a `-` before it negates.
+#[tactic(auto, unfolding(crate::specs::Certified::signed_number))]
+fn signed_number(lines: &mut Lines<'_>) -> Result<Frac, SyntaxFault>
+    requires { InFile lines.old }
+    ensures moves { MovesTo result (spec.signed_number lines.old) lines.new }
+    ensures in_file { OnOk result (InFile lines.new) }
+{
+    if lines.take_byte(b'-') {
+        let number = lines.number()?;
+        Ok(number.neg())
+    } else {
+        lines.number()
+    }
+}
+
+/// A factor: a number with an optional `-`, and optionally `/` and a number.
+#[tactic(auto, unfolding(crate::specs::Certified::factor))]
+fn factor(lines: &mut Lines<'_>) -> Result<Factor, SyntaxFault>
+    requires { InFile lines.old }
+    ensures moves { MovesTo result (spec.factor lines.old) lines.new }
+    ensures in_file { OnOk result (InFile lines.new) }
+{
+    let top = signed_number(lines)?;
+    let left = lines.left();
+    if !lines.take_byte(b'/') {
+        return Ok(Factor { top, bottom: None });
+    }
+    let number = lines.number()?;
+    Ok(Factor {
+        top,
+        bottom: Some(Divisor { number, left }),
+    })
+}
+
+/// What stands behind the word `log`, over n monomials.
+#[tactic(auto, unfolding(crate::specs::Certified::after_log))]
+fn after_log(alloc: Global, lines: &mut Lines<'_>, n: u8) -> Result<LogProgram, ReadFault>
+    requires { InFile lines.old }
+    ensures read { IfOk result (λ program. IsLogLine n (spec.after_log n lines.old) program lines.new) }
+    ensures fault { IfErr result (λ fault. IsFaultOf fault (spec.after_log n lines.old)) }
+    ensures in_file { OnOk result (InFile lines.new) }
+{
+    let factor = factor(lines)?;
+    lines.word(b"of")?;
+    let argument = lines.sum(alloc, monomials(n))?;
+    lines.line_end()?;
+    Ok(LogProgram::Log(factor, argument))
+}
+
+/// What stands behind the word `sum`, over n monomials.
+#[tactic(auto, unfolding(crate::specs::Certified::after_sum))]
+fn after_sum(alloc: Global, lines: &mut Lines<'_>, n: u8) -> Result<LogProgram, ReadFault>
+    requires { InFile lines.old }
+    ensures read { IfOk result (λ program. IsLogLine n (spec.after_sum n lines.old) program lines.new) }
+    ensures fault { IfErr result (λ fault. IsFaultOf fault (spec.after_sum n lines.old)) }
+    ensures in_file { OnOk result (InFile lines.new) }
+{
+    let start = lines.line_start();
+    let modulus = lines.sum(alloc, with_z(n))?;
+    lines.word(b"of")?;
+    let argument = lines.sum(alloc, with_z(n))?;
+    lines.line_end()?;
+    Ok(LogProgram::Sum(modulus, argument, start))
+}
+
+/// The logarithm that stands next, over n monomials.
+#[tactic(auto, using(crate::proofs::AnswerLines::word_low), unfolding(crate::specs::Certified::next_log))]
+fn next_log(alloc: Global, lines: &mut Lines<'_>, n: u8) -> Result<Option<LogProgram>, ReadFault>
+    requires { InFile lines.old }
+    ensures read { IfOk result (λ log. IsNextLog n (spec.next_log n lines.old) log lines.old lines.new) }
+    ensures fault { IfErr result (λ fault. IsNextFault fault (spec.next_log n lines.old)) }
+    ensures in_file { OnOk result (InFile lines.new) }
+{
+    if lines.take_word(b"log") {
+        let log = after_log(alloc, lines, n)?;
+        return Ok(Some(log));
+    }
+    if lines.take_word(b"sum") {
+        let log = after_sum(alloc, lines, n)?;
+        return Ok(Some(log));
+    }
+    Ok(None)
+}
+
+impl LogPrograms {
+    /// Appends a logarithm and the number of its line.
+    fn push(&mut self, line: u32, log: LogProgram) -> Result<(), AllocError>
+        ensures logs { OnOk result (self.new.logs ≡ self.old.logs ++ log ∷ []) }
+        ensures lines { OnOk result (self.new.lines ≡ self.old.lines ++ line ∷ []) }
+    {
+        self.logs.push(log)?;
+        self.lines.push(line)
+    }
+}
+
+/// The logarithms that stand next, over n monomials, behind lines with these numbers.
+#[tactic(auto, using(crate::proofs::AnswerLines::logs_begin, crate::proofs::AnswerLines::logs_stop, crate::proofs::AnswerLines::logs_done, crate::proofs::AnswerLines::logs_more, crate::proofs::AnswerLines::logs_fault))]
+fn log_lines(
+    alloc: Global,
+    lines: &mut Lines<'_>,
+    n: u8,
+    numbers: NumberList,
+) -> Result<LogPrograms, ReadFault>
+    requires { InFile lines.old }
+    ensures read { IfOk result (λ programs. AreLogLines n (length numbers) (spec.log_lines n (length lines.old.rest) (record { logs = []; lines = numbers }) lines.old) programs lines.new) }
+    ensures fault { IfErr result (λ fault. IsFaultOf fault (spec.log_lines n (length lines.old.rest) (record { logs = []; lines = numbers }) lines.old)) }
+    ensures in_file { OnOk result (InFile lines.new) }
+{
+    let mut programs = LogPrograms {
+        logs: Items::new(alloc),
+        lines: numbers,
+    };
+    for _turn in 0..lines.left() {
+        let line = lines.line();
+        let Some(log) = next_log(alloc, lines, n)? else {
+            return Ok(programs);
+        };
+        programs.push(line as u32, log)?;
+    }
+    Ok(programs)
+}
+
+/// The lines of a printed integral, over n monomials.
+#[tactic(auto, using(crate::proofs::AnswerLines::bare_line_low, crate::proofs::AnswerLines::expression_line_low), unfolding(crate::specs::Certified::answer_lines))]
+fn answer_lines(alloc: Global, lines: &mut Lines<'_>, n: u8) -> Result<AnswerProgram, ReadFault>
+    requires { InFile lines.old }
+    ensures read { IfOk result (λ program. IsAnswerRead n (spec.answer_lines n lines.old) program lines.new) }
+    ensures fault { IfErr result (λ fault. IsFaultOf fault (spec.answer_lines n lines.old)) }
+    ensures in_file { OnOk result (InFile lines.new) }
+{
+    let mut numbers = NumberList::new(alloc);
+    let first = lines.line();
+    lines.bare_line(b"integral")?;
+    numbers.push(first as u32)?;
+    let second = lines.line();
+    let part = lines.expression_line(alloc, b"part", monomials(n))?;
+    numbers.push(second as u32)?;
+    let mut programs = log_lines(alloc, lines, n, numbers)?;
+    let last = lines.line();
+    lines.bare_line(b"end")?;
+    programs.lines.push(last as u32)?;
+    let LogPrograms { logs, lines } = programs;
+    Ok(AnswerProgram { part, logs, lines })
+}
+
+/// A file that holds a problem, its printed integral, and nothing more; `None` where the answer to the problem begins with `refuted`.
+#[tactic(auto, using(crate::proofs::WholeFiles::problem_fault, crate::proofs::WholeFiles::not_yet, crate::proofs::WholeFiles::answer_fault, crate::proofs::WholeFiles::end_fault, crate::proofs::WholeFiles::certified_read))]
+pub(crate) fn whole_certified(
+    alloc: Global,
+    bytes: &[u8],
+) -> Result<Option<CertifiedProgram>, ReadFault>
+    requires { length bytes.now < 2 ^ 32 }
+    ensures read { IfOk result (λ program. IsWholeCertified (spec.whole_certified bytes.now) program) }
+    ensures fault { IfErr result (λ fault. IsFaultOf fault (spec.whole_certified bytes.now)) }
+{
+    let mut lines = Lines::start(bytes);
+    let problem = problem_lines(alloc, &mut lines)?;
+    if lines.take_word(b"refuted") {
+        return Ok(None);
+    }
+    let answer = answer_lines(alloc, &mut lines, problem.tower.len() as u8)?;
+    lines.finish()?;
+    Ok(Some(CertifiedProgram { problem, answer }))
+}
