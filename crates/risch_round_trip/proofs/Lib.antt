@@ -1,0 +1,24 @@
+-- In reading order: printed texts and what they are read as; the values of what is read; what is read with more bytes behind it; printed lines, answers and whole files.
+pub mod Fronts
+pub mod Chained
+pub mod WrittenTexts
+pub mod ShortTexts
+pub mod PrintedTerms
+pub mod PrintedPolynomials
+pub mod PrintedElements
+pub mod RootValues
+pub mod Limits
+pub mod ReadElements
+pub mod FurtherBytes
+pub mod FurtherGrammar
+pub mod FurtherLines
+pub mod FurtherProblems
+pub mod Places
+pub mod ProblemValues
+pub mod PrintedLines
+pub mod ReadLines
+pub mod ReadLogarithms
+pub mod ReadAnswers
+pub mod RoundTrip
+pub mod Forms
+pub mod RoundTripExamples
