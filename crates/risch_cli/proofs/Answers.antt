@@ -1,144 +1,121 @@
--- What is said, whatever the words and the bytes are.
-use Rattle.std.proofs.Common.{◌≡◌, ◌≢◌, ℕ, ◌≤◌, List, [], length, nat_lt, refl, sym, ap, ◌∙◌, subst, arith, Option, Some, None, true, false, Ok, Err}
-use Rattle.std.proofs.lemmas.Bool.{cond_both, le-ltb}
-use Rattle.std.specs.Prelude.{codes, cond}
+-- What is told of a report: its status, and why it is true.
+use Rattle.std.specs.Prelude.{nat_lt, option_map}
 use Rattle.std.specs.Io.KnownBytes.{Appends}
-use Rattle.risch_frac.specs.Fraction.{Fraction}
+use Rattle.std.proofs.Common.{◌≡◌, ◌≢◌, ℕ, ◌≤◌, List, length, Option, Some, None, sym, ◌∙◌, subst, arith}
+use Rattle.std.proofs.lemmas.Bool.{cond_both}
 use Rattle.risch_io.specs.Whole.{IsAllOf}
-use Rattle.risch_field.specs.Checked.{Checked}
-use Rattle.risch_mean.specs.Element.{Element}
-use Rattle.risch_mean.specs.Written.{Expression, written_value}
-use Rattle.risch_mean.specs.Answer.{IsIntegral}
+use Rattle.risch_elem.specs.declared.units.Stop.{Stop}
+use Rattle.risch_elem.specs.declared.units.Stop.TheVariants.{Overflow, Size, Case, NotSound, Budget}
+use Rattle.risch_cert.specs.declared.answer.Answer.{Answer}
+use Rattle.risch_cert.specs.declared.answer.Answer.TheVariants.{Integral, Stopped, Disagree}
+use Rattle.risch_cert.specs.Answers.{print_integral}
+use Rattle.risch_check.specs.Verdict.{Verdict, accepted, refused, stopped}
+use Rattle.risch_check.specs.Checked.{checked}
+use Rattle.risch_text.specs.Read.{read_problem}
+use Rattle.risch_text.specs.ReadCertified.{read_certified}
+use Rattle.risch_text.specs.declared.problem.ReadProblem.{ReadProblem}
+use Rattle.risch_text.specs.declared.problem.ReadProblem.TheVariants as problem
+use Rattle.risch_text.specs.declared.certified.ReadCertified.{ReadCertified}
+use Rattle.risch_text.specs.declared.certified.ReadCertified.TheVariants as certificate
+use Rattle.risch_words.specs.Words.{asked}
+use Rattle.risch_words.specs.declared.request.Command.{Command}
+use Rattle.risch_words.specs.declared.request.Command.TheVariants.{Integrate, Check, Solve, Sample}
+use Rattle.risch_words.specs.declared.request.Request.{Request}
 use Rattle.risch_cli.specs.declared.report.Report.{Report}
-use Rattle.risch_cli.specs.declared.stop.Stop.{Stop}
-use Rattle.risch_cli.specs.declared.stop.Stop.TheVariants.{Overflow, Size}
-use Rattle.risch_cli.specs.declared.procedure.Outcome.{Outcome}
-use Rattle.risch_cli.specs.declared.procedure.Outcome.TheVariants.{Integral, Stopped, Disagree}
-use Rattle.risch_cli.specs.Printing.{print_integral}
-use Rattle.risch_cli.specs.File.{Reading, not_yet, fault, problem, read}
-use Rattle.risch_cli.specs.Evaluation.{evaluate}
 use Rattle.risch_cli.specs.Procedure.{answer, stop_of}
-use Rattle.risch_cli.specs.Meaning as meaning
-use Rattle.risch_cli.specs.Meaning.{part_alone, IsSmall}
-use Rattle.risch_cli.specs.Saying.{IsSaid, said, is_command, usage, on_err, respond, report_of, outcome_for, status_of}
-use Rattle.risch_cli.specs.Telling.{IsAnswer, IsTold, TellsIntegral, HasSmallIntegrand}
-use Rattle.risch_cli.proofs.NumbersFit.{asked-fits}
-use Rattle.risch_cli.proofs.EvaluationMeaning.{evaluate-means}
-use Rattle.risch_cli.proofs.ProcedureMeaning.{answer-integral}
-use Rattle.risch_cli.proofs.SmallIntegrands.{small-integral}
+use Rattle.risch_cli.specs.Saying.{said_to, requested, unless_long, too_long, status_of, answer_status, integrand_in_x, answered, problem_report, integrated, judged, certified}
+use Rattle.risch_cli.specs.Truth.{AsksFor, HasSmallProblem, IsReported}
+use Rattle.risch_cli.specs.Telling.{IsSaid, IsAnswer, IsTold, TellsIntegral, TellsAccepted, HasSmallIntegrand}
 
--- What holds of the usage, of `too long` and of the answer to the file holds of what is said.
-by_cases : (P : Report → Type 0) (words : List (List ℕ)) (bytes : List ℕ) →
-    P usage → P (on_err 7 (codes "too long")) → P (respond (read bytes)) → P (said words bytes)
-by_cases P words bytes words_wrong too_long answered =
-    cond_both (is_command words) (cond (nat_lt 1048576 (length bytes)) (on_err 7 (codes "too long")) (respond (read bytes))) usage P
-    (λ _. cond_both (nat_lt 1048576 (length bytes)) (on_err 7 (codes "too long")) (respond (read bytes)) P (λ _. too_long) (λ _. answered))
-    (λ _. words_wrong)
+-- ---- the status of what is said is neither that of a read fault nor that of a write fault
+pub record IsNoFault (code : ℕ) : Type 0 where
+  pub not_read_fault : code ≢ 8
+  pub not_write_fault : code ≢ 9
 
--- ---- the status is an answer
-answers : (code : ℕ) → code ≢ 8 → code ≢ 9 → code ≢ 10 → IsAnswer code
-answers code p q r = record { not_read_fault = p; not_write_fault = q; not_memory = r }
+no_fault : (code : ℕ) → code ≢ 8 → code ≢ 9 → IsNoFault code
+no_fault code p q = record { not_read_fault = p; not_write_fault = q }
 
-stop_status : (stop : Stop) → IsAnswer (status_of stop)
-stop_status (Overflow op) = answers 4 (λ e. absurd (omega arith)) (λ e. absurd (omega arith)) (λ e. absurd (omega arith))
-stop_status Size = answers 7 (λ e. absurd (omega arith)) (λ e. absurd (omega arith)) (λ e. absurd (omega arith))
+stop_no_fault : (stop : Stop) → IsNoFault (status_of stop)
+stop_no_fault (Overflow op) = no_fault 4 (λ e. omega arith) (λ e. omega arith)
+stop_no_fault Size = no_fault 7 (λ e. omega arith) (λ e. omega arith)
+stop_no_fault (Case case) = no_fault 5 (λ e. omega arith) (λ e. omega arith)
+stop_no_fault (NotSound element) = no_fault 5 (λ e. omega arith) (λ e. omega arith)
+stop_no_fault Budget = no_fault 6 (λ e. omega arith) (λ e. omega arith)
 
-outcome_status : (outcome : Outcome) → IsAnswer (report_of outcome).status
-outcome_status (Integral part) = answers 0 (λ e. absurd (omega arith)) (λ e. absurd (omega arith)) (λ e. absurd (omega arith))
-outcome_status (Stopped stop stage) = stop_status stop
-outcome_status (Disagree left right) = answers 11 (λ e. absurd (omega arith)) (λ e. absurd (omega arith)) (λ e. absurd (omega arith))
+answer_no_fault : (a : Answer) → IsNoFault (answer_status a)
+answer_no_fault (Integral it) = no_fault 0 (λ e. omega arith) (λ e. omega arith)
+answer_no_fault (Stopped halt) = stop_no_fault halt.stop
+answer_no_fault (Disagree left right) = no_fault 11 (λ e. omega arith) (λ e. omega arith)
 
-reading_status : (reading : Reading) → IsAnswer (respond reading).status
-reading_status not_yet = answers 13 (λ e. absurd (omega arith)) (λ e. absurd (omega arith)) (λ e. absurd (omega arith))
-reading_status fault = answers 3 (λ e. absurd (omega arith)) (λ e. absurd (omega arith)) (λ e. absurd (omega arith))
-reading_status (problem tree) = outcome_status (outcome_for (evaluate tree))
+answered_no_fault : (o : Option Answer) → IsNoFault (answered o).status
+answered_no_fault None = no_fault 13 (λ e. omega arith) (λ e. omega arith)
+answered_no_fault (Some a) = answer_no_fault a
 
-said_status : (words : List (List ℕ)) (bytes : List ℕ) → IsAnswer (said words bytes).status
-said_status words bytes = by_cases (λ report. IsAnswer report.status) words bytes
-    (answers 2 (λ e. absurd (omega arith)) (λ e. absurd (omega arith)) (λ e. absurd (omega arith)))
-    (answers 7 (λ e. absurd (omega arith)) (λ e. absurd (omega arith)) (λ e. absurd (omega arith)))
-    (reading_status (read bytes))
+problem_no_fault : (budget : ℕ) (read : ReadProblem) → IsNoFault (integrated budget read).status
+unfolding problem_report
+problem_no_fault budget (problem.Problem p) = answered_no_fault (option_map (answer budget) (integrand_in_x p.tower p.integrand))
+problem_no_fault budget (problem.Syntax at cause) = no_fault 3 (λ e. omega arith) (λ e. omega arith)
+problem_no_fault budget (problem.Refused at cause) = no_fault 3 (λ e. omega arith) (λ e. omega arith)
+problem_no_fault budget (problem.Stopped stop) = stop_no_fault stop
+problem_no_fault budget problem.Memory = no_fault 10 (λ e. omega arith) (λ e. omega arith)
 
--- ---- the text with status 0 is the print of an integral
-pub record PrintsIntegral (bytes text : List ℕ) : Type 0 where
-  pub tree : Expression
-  pub asked : read bytes ≡ problem tree
-  pub integrand : Element
-  pub written : written_value tree ≡ Some integrand
-  pub part : List Fraction
-  pub exact : IsIntegral [] (part_alone part) integrand
-  pub printed : text ≡ print_integral part
+verdict_no_fault : (v : Verdict) → IsNoFault (judged v).status
+verdict_no_fault accepted = no_fault 0 (λ e. omega arith) (λ e. omega arith)
+verdict_no_fault (refused line left right) = no_fault 12 (λ e. omega arith) (λ e. omega arith)
+verdict_no_fault (stopped stop) = stop_no_fault (stop_of stop)
 
-prints : (bytes : List ℕ) (tree : Expression) (f part : List Fraction) → read bytes ≡ problem tree → evaluate tree ≡ Ok f → answer f ≡ Integral part →
-    PrintsIntegral bytes (print_integral part)
-unfolding meaning.value
-prints bytes tree f part asked value is =
-    let served = asked-fits bytes tree asked in
-    let m = evaluate-means tree f served.0 served.1 value in
-    record {
-      tree = tree;
-      asked = asked;
-      integrand = m.element;
-      written = m.written;
-      part = part;
-      exact = subst (IsIntegral [] (part_alone part)) m.stands.is (answer-integral f part m.stands.valid m.stands.shape.degree_small is);
-      printed = refl;
-    }
+certificate_no_fault : (read : ReadCertified) → IsNoFault (certified read).status
+certificate_no_fault (certificate.Certified c) = verdict_no_fault (checked c.problem.tower c.problem.integrand c.certificate c.lines)
+certificate_no_fault certificate.NotYet = no_fault 13 (λ e. omega arith) (λ e. omega arith)
+certificate_no_fault (certificate.Syntax at cause) = no_fault 3 (λ e. omega arith) (λ e. omega arith)
+certificate_no_fault (certificate.Refused at cause) = no_fault 3 (λ e. omega arith) (λ e. omega arith)
+certificate_no_fault (certificate.Stopped stop) = stop_no_fault stop
+certificate_no_fault certificate.Memory = no_fault 10 (λ e. omega arith) (λ e. omega arith)
 
-outcome_prints : (bytes : List ℕ) (tree : Expression) (f : List Fraction) (outcome : Outcome) → read bytes ≡ problem tree → evaluate tree ≡ Ok f → answer f ≡ outcome →
-    (report_of outcome).status ≡ 0 → PrintsIntegral bytes (report_of outcome).out
-outcome_prints bytes tree f (Integral part) asked value is zero = prints bytes tree f part asked value is
-outcome_prints bytes tree f (Stopped (Overflow op) stage) asked value is zero = absurd (omega arith)
-outcome_prints bytes tree f (Stopped Size stage) asked value is zero = absurd (omega arith)
-outcome_prints bytes tree f (Disagree left right) asked value is zero = absurd (omega arith)
+unless_long_no_fault : (bytes : List ℕ) (report : Report) → IsNoFault report.status → IsNoFault (unless_long bytes report).status
+unless_long_no_fault bytes report h =
+    cond_both (nat_lt 1048576 (length bytes)) too_long report (λ r. IsNoFault r.status) (λ long. no_fault 7 (λ e. omega arith) (λ e. omega arith)) (λ short. h)
 
-stop_is_no_answer : (stop : Stop) → status_of stop ≡ 0 → ⊥
-stop_is_no_answer (Overflow op) e = omega arith
-stop_is_no_answer Size e = omega arith
+command_no_fault : (command : Command) (budget : ℕ) (bytes : List ℕ) → IsNoFault (said_to command budget bytes).status
+command_no_fault Integrate budget bytes = unless_long_no_fault bytes (integrated budget (read_problem bytes)) (problem_no_fault budget (read_problem bytes))
+command_no_fault Check budget bytes = unless_long_no_fault bytes (certified (read_certified bytes)) (certificate_no_fault (read_certified bytes))
+command_no_fault Solve budget bytes = no_fault 13 (λ e. omega arith) (λ e. omega arith)
+command_no_fault Sample budget bytes = no_fault 13 (λ e. omega arith) (λ e. omega arith)
 
-value_prints : (bytes : List ℕ) (tree : Expression) (value : Checked (List Fraction)) → read bytes ≡ problem tree → evaluate tree ≡ value →
-    (report_of (outcome_for value)).status ≡ 0 → PrintsIntegral bytes (report_of (outcome_for value)).out
-value_prints bytes tree (Ok f) asked value zero = outcome_prints bytes tree f (answer f) asked value refl zero
-value_prints bytes tree (Err fail) asked value zero = absurd (stop_is_no_answer (stop_of fail) zero)
+request_no_fault : (request : Option Request) (bytes : List ℕ) → IsNoFault (requested request bytes).status
+request_no_fault None bytes = no_fault 2 (λ e. omega arith) (λ e. omega arith)
+request_no_fault (Some request) bytes = command_no_fault request.command request.budget bytes
 
-reading_prints : (bytes : List ℕ) (reading : Reading) → read bytes ≡ reading → (respond reading).status ≡ 0 → PrintsIntegral bytes (respond reading).out
-reading_prints bytes not_yet asked zero = absurd (omega arith)
-reading_prints bytes fault asked zero = absurd (omega arith)
-reading_prints bytes (problem tree) asked zero = value_prints bytes tree (evaluate tree) asked refl zero
+-- ---- the same of a report
+pub report_no_fault : (words : List (List ℕ)) (left : Option (List ℕ)) (report : Report) → IsReported words left report → IsNoFault report.status
+report_no_fault words left report r = subst (λ (x : Report). IsNoFault x.status) (sym r.said) (request_no_fault (asked words) r.bytes)
 
-said_integral : (words : List (List ℕ)) (bytes : List ℕ) → (said words bytes).status ≡ 0 → PrintsIntegral bytes (said words bytes).out
-said_integral words bytes = by_cases (λ report. report.status ≡ 0 → PrintsIntegral bytes report.out) words bytes
-    (λ e. absurd (omega arith))
-    (λ e. absurd (omega arith))
-    (reading_prints bytes (read bytes) refl)
-
--- ---- the same of a report that is what is said
-pub report_status : (words : List (List ℕ)) (left : Option (List ℕ)) (report : Report) → IsSaid words left report → IsAnswer report.status
-report_status words left report s =
-    subst (λ (r : Report). IsAnswer r.status) (sym s.said) (said_status words s.bytes)
+pub report_said : (words : List (List ℕ)) (left : Option (List ℕ)) (report : Report) → IsReported words left report → IsSaid words left report
+report_said words left report r = record { bytes = r.bytes; all = r.all; said = r.said }
 
 -- A status that is told, and isn't that of a write fault, is that of the report.
 pub told_status : (code status k : ℕ) → (code ≢ 9 → code ≡ status) → k ≢ 9 → code ≡ k → status ≡ k
 told_status code status k same other e = sym (same (λ nine. other (sym e ∙ nine))) ∙ e
 
+-- Out took the print of an integral.
 pub tells_integral : (words : List (List ℕ)) (left out_old out_new : Option (List ℕ)) (report : Report) (text : List ℕ) →
-    IsSaid words left report → report.status ≡ 0 → text ≡ report.out → Appends out_old out_new text → TellsIntegral left out_old out_new
-tells_integral words left out_old out_new report text s zero same told =
-    let is : report ≡ said words s.bytes = s.said in
-    let status : (said words s.bytes).status ≡ 0 = subst (λ (r : Report). r.status ≡ 0) is zero in
-    let printed = said_integral words s.bytes status in
-    let whole : text ≡ print_integral printed.part = same ∙ ap (λ r. r.out) is ∙ printed.printed in
+    IsReported words left report → AsksFor words Integrate → report.status ≡ 0 → text ≡ report.out → Appends out_old out_new text → TellsIntegral left out_old out_new
+tells_integral words left out_old out_new report text r asks zero same told =
+    let answers = r.is_true.integral asks zero in
+    let whole : text ≡ print_integral answers.prints.integral = same ∙ answers.prints.printed in
     record {
-      bytes = s.bytes;
-      all = s.all;
-      tree = printed.tree;
-      asked = printed.asked;
-      integrand = printed.integrand;
-      written = printed.written;
-      part = printed.part;
-      exact = printed.exact;
+      bytes = r.bytes;
+      all = r.all;
+      problem = answers.problem;
+      written = answers.written;
+      integral = answers.prints.integral;
+      exact = answers.prints.exact;
       printed = subst (λ (t : List ℕ). Appends out_old out_new t) whole told;
     }
+
+-- The certificate holds.
+pub tells_accepted : (words : List (List ℕ)) (left : Option (List ℕ)) (report : Report) → IsReported words left report → AsksFor words Check → report.status ≡ 0 → TellsAccepted left
+tells_accepted words left report r asks zero = record { bytes = r.bytes; all = r.all; holds = r.is_true.accepted asks zero }
 
 -- A report is told where its texts are.
 pub report_told : (report : Report) (out err : List ℕ) (code : ℕ) (out_old out_new err_old err_new : Option (List ℕ)) →
@@ -149,30 +126,15 @@ report_told report out err code out_old out_new err_old err_new e f told =
     subst (λ (x : List ℕ). IsTold (record { out = x; err = report.err; status = report.status }) code out_old out_new err_old err_new) e
     (subst (λ (y : List ℕ). IsTold (record { out = out; err = y; status = report.status }) code out_old out_new err_old err_new) f told)
 
--- ---- a small integrand has its integral
-small_outcome : (tree : Expression) (f : List Fraction) (bytes : List ℕ) → read bytes ≡ problem tree → evaluate tree ≡ Ok f → IsSmall f → (report_of (answer f)).status ≡ 0
-small_outcome tree f bytes asked value small =
-    let served = asked-fits bytes tree asked in
-    let m = evaluate-means tree f served.0 served.1 value in
-    let found = small-integral f m.stands.valid m.stands.shape.ends_not_zero small in
-    ap (λ o. (report_of o).status) found.1
-
-small_said : (words : List (List ℕ)) (bytes : List ℕ) (tree : Expression) (f : List Fraction) → is_command words ≡ true → length bytes ≤ 1048576 → read bytes ≡ problem tree →
-    evaluate tree ≡ Ok f → IsSmall f → (said words bytes).status ≡ 0
-small_said words bytes tree f own short asked value small =
-    let under : nat_lt 1048576 (length bytes) ≡ false = le-ltb 1048576 (length bytes) short in
-    let here : said words bytes ≡ report_of (answer f) = rw (own, under, asked, value) refl in
-    ap (λ r. r.status) here ∙ small_outcome tree f bytes asked value small
-
 all-known : (left : Option (List ℕ)) (bytes known : List ℕ) → left ≡ Some known → IsAllOf left bytes → bytes ≡ known
 all-known None bytes known e all = cc
 all-known (Some x) bytes known e all = sym all ∙ cc
 
 -- The report of an input whose integral is surely found has status 0.
-pub small_report : (words : List (List ℕ)) (left : Option (List ℕ)) (report : Report) → HasSmallIntegrand words left → IsSaid words left report → report.status ≡ 0
-small_report words left report h s =
-    let same : s.bytes ≡ h.bytes = all-known left s.bytes h.bytes h.known s.all in
-    ap (λ r. r.status) (s.said ∙ ap (said words) same) ∙ small_said words h.bytes h.tree h.integrand h.command h.short h.asked h.evaluated h.small
+pub small_report : (words : List (List ℕ)) (left : Option (List ℕ)) (report : Report) → HasSmallIntegrand words left → IsReported words left report → report.status ≡ 0
+small_report words left report h r =
+    let same : h.bytes ≡ r.bytes = sym (all-known left r.bytes h.bytes h.known r.all) in
+    r.is_true.small h.asks (subst (λ (b : List ℕ). length b ≤ 1048576) same h.short) (subst HasSmallProblem same h.small)
 
 -- ---- what is told where there is no report
 pub read_fault-not_zero : (code : ℕ) → (code ≢ 9 → code ≡ 8) → code ≡ 0 → ⊥

@@ -1,5 +1,5 @@
 -- An integrand of degree at most 254 with small coefficients gets its integral.
-use Rattle.std.specs.Prelude.{cond, if◌then◌else◌, nat_le, fold}
+use Rattle.std.specs.Prelude.{cond, if◌then◌else◌, nat_le}
 use Rattle.std.proofs.Common.{◌≡◌, ℕ, zero, suc, ◌+◌, ◌≤◌, Bool, true, false, List, [], ◌∷◌, ◌++◌, length, replicate, drop, drop-cons, Ok, refl, sym, ◌∙◌, ap, arith, append_assoc}
 use Rattle.std.proofs.lemmas.Bool.{le-leb}
 use Rattle.risch_frac.specs.Fraction.{Fraction, IsLowest, is_zero, whole}
@@ -12,8 +12,10 @@ use Rattle.risch_polynomial_theory.proofs.FractionValues.{ground_means}
 use Rattle.risch_polynomial_theory.proofs.Monomials.{formed-small, sum_onto-nil}
 use Rattle.risch_polynomial.proofs.CoefficientLists.{trimmed-trimmed}
 use Rattle.risch_polynomial_theory.proofs.PolynomialValues.{coefficient-valid, same_if}
-use Rattle.risch_cli.specs.declared.procedure.Outcome.TheVariants.{Integral, Disagree}
-use Rattle.risch_cli.specs.Procedure.{integral_of_term, with_term, with_terms, branch, checked, gathered, answer}
+use Rattle.risch_cert.specs.declared.answer.Answer.TheVariants.{Integral, Disagree}
+use Rattle.risch_cli.specs.Elements.{element_of}
+use Rattle.risch_cli.specs.Procedure.{integral_of_term, with_term, branch, part_alone, checked, gathered, answer}
+use Rattle.risch_cli.proofs.Unlimited.{step, steps, steps-with_terms}
 use Rattle.risch_cli.specs.Meaning.{IsSmall}
 use Rattle.risch_cli.proofs.SmallQuotients.{IsQuotient, quotient_of, quotients, quotient-is, all-small, all-divided, length-quotients, trimmed-quotients, multiples-quotients}
 
@@ -113,7 +115,8 @@ integral-placed c r e h z small =
 
 -- the term of exponent e adds its integral below x^(e + 2)·p
 term-added : (c r : Fraction) (e : ℕ) (p : List Fraction) → IsQuotient c (e + 1) r → poly.trimmed ground p ≡ p → e + 1 + 1 + length p ≤ 256 →
-    with_term c e (shifted (e + 1 + 1) p) ≡ Ok (shifted (e + 1) (poly.leading ground r p))
+    step c e (shifted (e + 1 + 1) p) ≡ Ok (shifted (e + 1) (poly.leading ground r p))
+unfolding with_term
 term-added c r e p h t small = by_test (is_zero c) refl
   where
     by_test : (b : Bool) → is_zero c ≡ b → cond b (Ok (shifted (e + 1 + 1) p)) (and_then (integral_of_term c e) (poly.sum ground (shifted (e + 1 + 1) p))) ≡ Ok (shifted (e + 1) (poly.leading ground r p))
@@ -130,7 +133,7 @@ abbrev upper : ℕ → List Fraction → List Fraction
 upper n p = shifted n (poly.trimmed ground (quotients n p))
 
 upper-more : (f cs : List Fraction) (e : ℕ) → IsQuotient (poly.coefficient ground f e) (e + 1) (quotient_of (poly.coefficient ground f e) (e + 1)) → e + 1 + 1 + length cs ≤ 256 →
-    with_term (poly.coefficient ground f e) e (upper (e + 1 + 1) cs) ≡ Ok (upper (e + 1) (poly.coefficient ground f e ∷ cs))
+    step (poly.coefficient ground f e) e (upper (e + 1 + 1) cs) ≡ Ok (upper (e + 1) (poly.coefficient ground f e ∷ cs))
 upper-more f cs e h small =
     let p = poly.trimmed ground (quotients (e + 1 + 1) cs) in
     let short = length-trimmed (quotients (e + 1 + 1) cs) in
@@ -147,7 +150,7 @@ after-all [] = refl
 after-all (c ∷ p) = after-all p
 
 module _ (f : List Fraction) (l : AllValid IsLowest f) (s : IsSmall f) where
-  terms-added : (e : ℕ) → e ≤ length f → with_terms f e (upper (e + 1) (drop e f)) ≡ Ok (poly.trimmed ground (whole 0 ∷ quotients 1 f))
+  terms-added : (e : ℕ) → e ≤ length f → steps f e (upper (e + 1) (drop e f)) ≡ Ok (poly.trimmed ground (whole 0 ∷ quotients 1 f))
   terms-added zero h = ap Ok (shifted-one (poly.trimmed ground (quotients 1 f)))
   terms-added (suc e) h =
       let c = poly.coefficient ground f e in
@@ -156,14 +159,19 @@ module _ (f : List Fraction) (l : AllValid IsLowest f) (s : IsSmall f) where
       let long = length-after (suc e) f h in
       let few = s.degree in
       let part = quotient-is c (e + 1) (coefficient-valid ground_means f e l) (s.coefficients e ground.zero (omega arith)) (omega arith) (omega arith) in
-      ap (λ n. and_then (with_term c e (upper n cs)) (with_terms f e)) more
-      ∙ ap (λ x. and_then x (with_terms f e)) (upper-more f cs e part (omega arith))
-      ∙ ap (λ q. with_terms f e (upper (e + 1) q)) (sym (drop-cons f e ground.zero (omega arith)))
+      ap (λ n. and_then (step c e (upper n cs)) (steps f e)) more
+      ∙ ap (λ x. and_then x (steps f e)) (upper-more f cs e part (omega arith))
+      ∙ ap (λ q. steps f e (upper (e + 1) q)) (sym (drop-cons f e ground.zero (omega arith)))
       ∙ terms-added e (omega arith)
 
-  branch-is : branch f ≡ Ok (poly.trimmed ground (whole 0 ∷ quotients 1 f))
+  steps-are : steps f (length f) [] ≡ Ok (poly.trimmed ground (whole 0 ∷ quotients 1 f))
+  steps-are = ap (λ q. steps f (length f) (upper (length f + 1) q)) (sym (after-all f)) ∙ terms-added (length f) (omega arith)
+
+  branch-is : (budget : ℕ) → 512 ≤ budget → branch budget f ≡ Ok (poly.trimmed ground (whole 0 ∷ quotients 1 f))
   unfolding branch
-  branch-is = ap (λ q. with_terms f (length f) (upper (length f + 1) q)) (sym (after-all f)) ∙ terms-added (length f) (omega arith)
+  branch-is budget enough =
+      let few = s.degree in
+      steps-with_terms budget f (length f) [] (poly.trimmed ground (whole 0 ∷ quotients 1 f)) (omega arith) steps-are
 
   -- ---- the derivative
   tail-leading : (p : List Fraction) → drop 1 (poly.leading ground (whole 0) p) ≡ p
@@ -181,12 +189,14 @@ module _ (f : List Fraction) (l : AllValid IsLowest f) (s : IsSmall f) where
         ∙ ap (λ x. and_then x (λ r. poly.sized ground (poly.trimmed ground r))) (multiples-quotients [] 1 f divided)
         ∙ formed-small f f t (omega arith)
 
-    answer-is : answer f ≡ Integral (poly.trimmed ground (whole 0 ∷ quotients 1 f))
+    answer-is : (budget : ℕ) → 512 ≤ budget → answer budget f ≡ Integral (part_alone (poly.trimmed ground (whole 0 ∷ quotients 1 f)))
     unfolding answer
-    answer-is =
+    answer-is budget enough =
         let part = poly.trimmed ground (whole 0 ∷ quotients 1 f) in
-        ap (gathered f) branch-is ∙ ap (checked f part) derivative-is ∙ ap (λ b. cond b (Integral part) (Disagree f f)) (same_if ground_means f l)
+        ap (gathered f) (branch-is budget enough) ∙ ap (checked f part) derivative-is
+        ∙ ap (λ b. if b then Integral (part_alone part) else Disagree (element_of f) (element_of f)) (same_if ground_means f l)
 
--- degree at most 254 and coefficients with numerators and denominators below 2^60: no overflow, no size, no disagreement
-pub small-integral : (f : List Fraction) → AllValid IsLowest f → poly.trimmed ground f ≡ f → IsSmall f → (part : List Fraction) × (answer f ≡ Integral part)
-small-integral f l t s = (poly.trimmed ground (whole 0 ∷ quotients 1 f), answer-is f l s t)
+-- degree at most 254 and coefficients with numerators and denominators below 2^60, and a budget of at least 512: no overflow, no size, no stop of the budget, no disagreement
+pub small-integral : (budget : ℕ) (f : List Fraction) → 512 ≤ budget → AllValid IsLowest f → poly.trimmed ground f ≡ f → IsSmall f →
+    (part : List Fraction) × (answer budget f ≡ Integral (part_alone part))
+small-integral budget f enough l t s = (poly.trimmed ground (whole 0 ∷ quotients 1 f), answer-is f l s t budget enough)

@@ -4,45 +4,72 @@ ghost use Rattle.risch_field.specs.Checked.{Agrees};
 ghost use Rattle.risch_field.specs.Ground.{ground};
 ghost use Rattle.risch_polynomial.specs.Poly as poly;
 ghost use Rattle.risch_cli.specs.Procedure as spec;
+ghost use Rattle.risch_cli.specs.Limited.{Answers};
 
-use crate::stop::{Stage, Stop};
+use crate::elements::element_of;
+use risch_cert::{Answer, Halt, Place};
+use risch_elem::Stop;
 use risch_field::{Arith, Fail};
 use risch_frac::Frac;
 use risch_polynomial::Poly;
+use risch_rootsum::{Integral, LogList};
 use std::alloc::{AllocError, Global};
 
-/// What the procedure answers.
+/// What ends a branch: a stop, or want of memory, about which no rule says anything.
 #[derive(Drop)]
-pub enum Outcome {
-    /// A polynomial whose derivative is the integrand.
-    Integral(Poly<Frac>),
-    /// What could not be formed, and where.
-    Stopped(Stop, Stage),
-    /// A derivative, and the integrand that it is not.
-    Disagree(Poly<Frac>, Poly<Frac>),
+pub(crate) enum BranchFault {
+    Stopped(Stop),
+    Memory,
 }
 
-/// The answer to an integrand: its integral with the derivative checked, or the stop of the first value that cannot be formed.
-#[tactic(auto, unfolding(crate::specs::Procedure::answer))]
-pub(crate) fn integrate(alloc: Global, integrand: &Poly<Frac>) -> Result<Outcome, AllocError>
-    ensures { IfOk result (λ outcome. outcome ≡ spec.answer integrand.now) }
-{
-    match branch(alloc, integrand) {
-        Ok(part) => checked(alloc, integrand, part),
-        Err(Fail::Overflow(op)) => Ok(Outcome::Stopped(Stop::Overflow(op), Stage::Branch)),
-        Err(Fail::Size) => Ok(Outcome::Stopped(Stop::Size, Stage::Branch)),
-        Err(Fail::Memory) => Err(AllocError),
+impl From<Fail> for BranchFault {
+    ghost use Rattle.risch_cli.specs.Limited.{fault_of};
+
+    ghost from_gives = { λ fail fault. fault ≡ fault_of fail };
+
+    fn from(fail: Fail) -> BranchFault {
+        match fail {
+            Fail::Overflow(op) => BranchFault::Stopped(Stop::Overflow(op)),
+            Fail::Size => BranchFault::Stopped(Stop::Size),
+            Fail::Memory => BranchFault::Memory,
+        }
     }
 }
 
+/// What a term other than 0 costs: a unit for its step, and one for its equation.
+const TERM_COST: u64 = 2;
+
+/// The answer to an integrand: its integral with the derivative checked, or the stop of the first value that cannot be formed, or of the budget.
+#[tactic(auto, unfolding(crate::specs::Procedure::answer))]
+pub(crate) fn integrate(
+    alloc: Global,
+    budget: u64,
+    integrand: &Poly<Frac>,
+) -> Result<Answer, AllocError>
+    ensures { IfOk result (λ answer. answer ≡ spec.answer budget integrand.now) }
+{
+    match branch(alloc, budget, integrand) {
+        Ok(part) => checked(alloc, integrand, &part),
+        Err(BranchFault::Stopped(stop)) => Ok(stopped_in(Place::Branch(0, 0), stop)),
+        Err(BranchFault::Memory) => Err(AllocError),
+    }
+}
+
+/// A stop at a step.
+pub(crate) fn stopped_in(place: Place, stop: Stop) -> Answer
+    ensures { result ≡ spec.stopped_in place stop }
+{
+    Answer::Stopped(Halt { stop, place })
+}
+
 /// The part as an integral, if its derivative is the integrand.
-fn checked(alloc: Global, integrand: &Poly<Frac>, part: Poly<Frac>) -> Result<Outcome, AllocError>
-    ensures { IfOk result (λ outcome. outcome ≡ spec.checked integrand.now part (poly.partial ground part)) }
+fn checked(alloc: Global, integrand: &Poly<Frac>, part: &Poly<Frac>) -> Result<Answer, AllocError>
+    ensures { IfOk result (λ answer. answer ≡ spec.checked integrand.now part.now (poly.partial ground part.now)) }
 {
     match part.partial(alloc) {
-        Ok(derivative) => compared(alloc, integrand, part, derivative),
-        Err(Fail::Overflow(op)) => Ok(Outcome::Stopped(Stop::Overflow(op), Stage::Checking)),
-        Err(Fail::Size) => Ok(Outcome::Stopped(Stop::Size, Stage::Checking)),
+        Ok(derivative) => compared(alloc, integrand, part, &derivative),
+        Err(Fail::Overflow(op)) => Ok(stopped_in(Place::Checking, Stop::Overflow(op))),
+        Err(Fail::Size) => Ok(stopped_in(Place::Checking, Stop::Size)),
         Err(Fail::Memory) => Err(AllocError),
     }
 }
@@ -51,45 +78,56 @@ fn checked(alloc: Global, integrand: &Poly<Frac>, part: Poly<Frac>) -> Result<Ou
 fn compared(
     alloc: Global,
     integrand: &Poly<Frac>,
-    part: Poly<Frac>,
-    derivative: Poly<Frac>,
-) -> Result<Outcome, AllocError>
-    ensures { IfOk result (λ outcome. outcome ≡ spec.compared integrand.now part derivative) }
+    part: &Poly<Frac>,
+    derivative: &Poly<Frac>,
+) -> Result<Answer, AllocError>
+    ensures { IfOk result (λ answer. answer ≡ spec.compared integrand.now part.now derivative.now) }
 {
     if derivative.same(integrand) {
-        Ok(Outcome::Integral(part))
-    } else {
-        Ok(Outcome::Disagree(derivative, integrand.copy(alloc)?))
+        return Ok(Answer::Integral(Integral {
+            part: element_of(alloc, part)?,
+            logs: LogList::new(alloc),
+        }));
     }
+    let left = element_of(alloc, derivative)?;
+    let right = element_of(alloc, integrand)?;
+    Ok(Answer::Disagree { left, right })
 }
 
 /// The sum of the integrals of the terms, from the highest exponent down.
-#[tactic(auto, using(crate::proofs::Pieces::terms_begin, crate::proofs::Pieces::terms_stop, crate::proofs::Pieces::terms_more, crate::proofs::Pieces::terms_done))]
-fn branch(alloc: Global, integrand: &Poly<Frac>) -> Result<Poly<Frac>, Fail>
-    ensures { Agrees result (spec.branch integrand.now) }
+#[tactic(auto, using(crate::proofs::Pieces::terms_begin, crate::proofs::Pieces::term_zero, crate::proofs::Pieces::terms_budget, crate::proofs::Pieces::terms_stop, crate::proofs::Pieces::terms_more, crate::proofs::Pieces::terms_done))]
+fn branch(alloc: Global, budget: u64, integrand: &Poly<Frac>) -> Result<Poly<Frac>, BranchFault>
+    ensures { Answers result (spec.branch budget integrand.now) }
 {
     let coefficients = integrand.coefficients();
+    let mut units = budget;
     let mut piece = Poly::zero(alloc);
     for exponent in (0..coefficients.len()).rev() {
-        piece = with_term(alloc, piece, coefficients[exponent], exponent as u16)?;
+        let coefficient = coefficients[exponent];
+        if !coefficient.is_zero() {
+            if units < TERM_COST {
+                return Err(BranchFault::Stopped(Stop::Budget));
+            }
+            units -= TERM_COST;
+            piece = with_term(alloc, &piece, coefficient, exponent as u16)?;
+        }
     }
     Ok(piece)
 }
 
 /// The piece with the integral of c·x^e.
+#[tactic(auto, using(risch_field::proofs::CheckedSteps::stop_passes, risch_field::proofs::CheckedSteps::value_passes), unfolding(crate::specs::Procedure::with_term))]
 fn with_term(
     alloc: Global,
-    piece: Poly<Frac>,
+    piece: &Poly<Frac>,
     coefficient: Frac,
     exponent: u16,
 ) -> Result<Poly<Frac>, Fail>
     requires { exponent ≤ 255 }
-    ensures { Agrees result (spec.with_term coefficient exponent piece) }
+    ensures { Agrees result (spec.with_term coefficient exponent piece.now) }
 {
-    if coefficient.is_zero() {
-        return Ok(piece);
-    }
-    piece.add(alloc, &integral_of_term(alloc, coefficient, exponent)?)
+    let integral = integral_of_term(alloc, coefficient, exponent)?;
+    piece.add(alloc, &integral)
 }
 
 /// c/(e + 1)·x^(e + 1).

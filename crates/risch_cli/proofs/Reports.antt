@@ -1,0 +1,212 @@
+-- What is reported on files, case by case.
+use Rattle.std.specs.Prelude.{IfOk, option_map}
+use Rattle.std.proofs.Common.{◌≡◌, ◌≢◌, ℕ, ◌≤◌, ◌<◌, List, [], ◌∷◌, length, Option, Some, None, Result, Ok, Err, refl, sym, ap, ◌∙◌, subst, arith}
+use Rattle.risch_frac.specs.Fraction.{Fraction}
+use Rattle.risch_mean.specs.Answer.{IsIntegral}
+use Rattle.risch_level.specs.Levels.{Element}
+use Rattle.risch_element_theory.specs.WholeTower.{meaning}
+use Rattle.risch_elem.specs.declared.units.Stop.{Stop}
+use Rattle.risch_elem.specs.declared.units.Stop.TheVariants.{Overflow, Size, Case, NotSound, Budget}
+use Rattle.risch_tower.specs.TowerMeaning.{monomials}
+use Rattle.risch_tower.specs.declared.level.Level.{Level}
+use Rattle.risch_rootsum.specs.DerivativeMeaning.{answer_of}
+use Rattle.risch_cert.specs.Answers.{print_answer}
+use Rattle.risch_cert.specs.declared.answer.Answer.{Answer}
+use Rattle.risch_cert.specs.declared.answer.Answer.TheVariants.{Integral, Stopped, Disagree}
+use Rattle.risch_check.specs.Verdict.{Verdict, Answers, OnAccepted}
+use Rattle.risch_check.specs.Checked.{checked}
+use Rattle.risch_cert.specs.declared.answer.Certificate.{Certificate}
+use Rattle.risch_cert.specs.declared.answer.Certificate.TheVariants.{Integral as Certified}
+use Rattle.risch_check.specs.Certificates.{IsCertificate, claimed, line_count}
+use Rattle.risch_check.specs.Printing.{print_check}
+use Rattle.risch_check.specs.declared.kinds.Check.{Check}
+use Rattle.risch_check.specs.declared.kinds.Check.TheVariants as check
+use Rattle.risch_expression.specs.declared.fault.Cause.{Cause}
+use Rattle.risch_text.specs.declared.fault.Refusal.{Refusal}
+use Rattle.risch_text.specs.Problem as text
+use Rattle.risch_text.specs.Problem.{ProblemValue, CertifiedValue, IsForm}
+use Rattle.risch_text.specs.Read.{read_problem}
+use Rattle.risch_text.specs.ReadCertified.{read_certified}
+use Rattle.risch_text.specs.Meaning.{IsWritten, IsCertifiedWritten}
+use Rattle.risch_text.specs.declared.problem.ReadProblem.{ReadProblem}
+use Rattle.risch_text.specs.declared.problem.ReadProblem.TheVariants as problem
+use Rattle.risch_text.specs.declared.certified.ReadCertified.{ReadCertified}
+use Rattle.risch_text.specs.declared.certified.ReadCertified.TheVariants as certificate
+use Rattle.risch_cli.specs.declared.report.Report.{Report}
+use Rattle.risch_cli.specs.Elements.{coefficients}
+use Rattle.risch_cli.specs.Meaning.{IsPolynomialInX, IsSmall}
+use Rattle.risch_cli.specs.Procedure.{answer}
+use Rattle.risch_cli.specs.Saying.{on_out, not_yet, status_of, answer_status, report_of, check_status, integrand_in_x, answered, problem_report, integrated, judged, certified}
+use Rattle.risch_cli.specs.Truth.{PrintsIntegral, IsSmallProblem, ReportsProblem, ReportsProblemFile, ReportsCertificate, ReportsCertificateFile}
+use Rattle.risch_cli.proofs.ProcedureMeaning.{answer-integral}
+use Rattle.risch_cli.proofs.SmallIntegrands.{small-integral}
+
+-- what holds of a value holds of what follows from it
+pub if_ok : {A E : Type 0} (P Q : A → Type 0) (result : Result A E) → ((a : A) → P a → Q a) → IfOk result P → IfOk result Q
+if_ok P Q (Ok a) follows h = follows a h
+if_ok P Q (Err fault) follows h = tt
+
+-- no stop has the status 0
+pub stop-not_zero : (stop : Stop) → status_of stop ≢ 0
+stop-not_zero (Overflow op) e = omega arith
+stop-not_zero Size e = omega arith
+stop-not_zero (Case case) e = omega arith
+stop-not_zero (NotSound element) e = omega arith
+stop-not_zero Budget e = omega arith
+
+-- ---- problems
+none_is_none : {A B : Type 0} (f : A → B) (o : Option A) → o ≡ None → option_map f o ≡ None
+none_is_none f o e = rw e refl
+
+not_some : {A : Type 0} (o : Option A) (a : A) → o ≡ None → o ≡ Some a → ⊥
+not_some o a e f = cc
+
+-- a problem that is not yet served
+pub problem-not_yet : (budget : ℕ) (p : ProblemValue) (report : Report) → integrand_in_x p.tower p.integrand ≡ None → report ≡ not_yet → ReportsProblem budget p report
+unfolding problem_report
+problem-not_yet budget p report none e = record {
+  said = e ∙ ap answered (sym (none_is_none (answer budget) (integrand_in_x p.tower p.integrand) none));
+  integral = λ zero. absurd (let thirteen = ap (λ r. r.status) e in omega arith);
+  small = λ enough small. absurd (not_some (integrand_in_x p.tower p.integrand) small.polynomial none small.is);
+}
+
+higher : (levels : List Level) (e : Element) → 0 < length levels → integrand_in_x levels e ≡ None
+higher [] e h = absurd (omega arith)
+higher (l ∷ levels) e h = refl
+
+empty : (levels : List Level) → length levels ≤ 0 → levels ≡ []
+empty [] h = refl
+empty (l ∷ levels) h = absurd (omega arith)
+
+-- a tower with a monomial
+pub problem-higher : (budget : ℕ) (p : ProblemValue) (report : Report) → 0 < length p.tower → report ≡ not_yet → ReportsProblem budget p report
+problem-higher budget p report h e = problem-not_yet budget p report (higher p.tower p.integrand h) e
+
+in_x : (p : ProblemValue) → length p.tower ≤ 0 → integrand_in_x p.tower p.integrand ≡ coefficients p.integrand
+in_x p h = ap (λ levels. integrand_in_x levels p.integrand) (empty p.tower h)
+
+-- an integrand that is no polynomial in x
+pub problem-other : (budget : ℕ) (p : ProblemValue) (report : Report) → length p.tower ≤ 0 → None ≡ coefficients p.integrand → report ≡ not_yet → ReportsProblem budget p report
+problem-other budget p report h none e = problem-not_yet budget p report (in_x p h ∙ sym none) e
+
+prints : (budget : ℕ) (p : ProblemValue) (f : List Fraction) (a : Answer) → length p.tower ≤ 0 → IsPolynomialInX p.integrand f → answer budget f ≡ a →
+    answer_status a ≡ 0 → PrintsIntegral p (print_answer a)
+unfolding print_answer
+prints budget p f (Integral it) h s is zero = record {
+  integral = it;
+  exact = subst (λ levels. IsIntegral (monomials levels) (answer_of it) (meaning p.integrand)) (sym (empty p.tower h))
+      (subst (IsIntegral [] (answer_of it)) (sym s.means) (answer-integral budget f it s.valid s.degree_small is));
+  printed = refl;
+}
+prints budget p f (Stopped halt) h s is zero = absurd (stop-not_zero halt.stop zero)
+prints budget p f (Disagree left right) h s is zero = absurd (omega arith)
+
+-- a polynomial in x
+pub problem-answered : (budget : ℕ) (p : ProblemValue) (f : List Fraction) (report : Report) → length p.tower ≤ 0 → Some f ≡ coefficients p.integrand → IsPolynomialInX p.integrand f →
+    report ≡ report_of (answer budget f) → ReportsProblem budget p report
+unfolding problem_report
+problem-answered budget p f report h some s e = record {
+  said = e ∙ ap (λ o. answered (option_map (answer budget) o)) (some ∙ sym (in_x p h));
+  integral = λ zero. subst (PrintsIntegral p) (sym (ap (λ r. r.out) e)) (prints budget p f (answer budget f) h s refl (sym (ap (λ r. r.status) e) ∙ zero));
+  small = λ enough small.
+      let same : Some f ≡ Some small.polynomial = some ∙ sym (in_x p h) ∙ small.is in
+      let here : small.polynomial ≡ f = cc in
+      let found = small-integral budget f enough s.valid s.ends_not_zero (subst IsSmall here small.small) in
+      ap (λ r. r.status) e ∙ ap answer_status found.1;
+}
+
+-- ---- files of problems
+pub file-problem : (budget : ℕ) (bytes : List ℕ) (p : ProblemValue) (report : Report) → read_problem bytes ≡ problem.Problem p → IsWritten bytes p → ReportsProblem budget p report →
+    ReportsProblemFile budget bytes report
+file-problem budget bytes p report read written r = record {
+  said = r.said ∙ ap (integrated budget) (sym read);
+  integral = λ zero. record { problem = p; written = written; prints = r.integral zero };
+  small = λ enough small.
+      let same : problem.Problem p ≡ problem.Problem small.problem = sym read ∙ small.read in
+      let here : small.problem ≡ p = cc in
+      r.small enough (subst IsSmallProblem here small.small);
+}
+
+-- what is no problem
+file-other : (budget : ℕ) (bytes : List ℕ) (read : ReadProblem) (report : Report) → read_problem bytes ≡ read → ((p : ProblemValue) → ¬ (read ≡ problem.Problem p)) →
+    report ≡ integrated budget read → report.status ≢ 0 → ReportsProblemFile budget bytes report
+file-other budget bytes read report is other e some = record {
+  said = e ∙ ap (integrated budget) (sym is);
+  integral = λ zero. absurd (some zero);
+  small = λ enough small. absurd (other small.problem (sym is ∙ small.read));
+}
+
+pub file-syntax : (budget : ℕ) (bytes : List ℕ) (at : ℕ) (cause : Cause) (report : Report) → read_problem bytes ≡ problem.Syntax at cause → report ≡ integrated budget (problem.Syntax at cause) →
+    ReportsProblemFile budget bytes report
+file-syntax budget bytes at cause report is e =
+    file-other budget bytes (problem.Syntax at cause) report is (λ p f. cc) e (λ zero. let three = ap (λ r. r.status) e in omega arith)
+
+pub file-refused : (budget : ℕ) (bytes : List ℕ) (at : ℕ) (cause : Refusal) (report : Report) → read_problem bytes ≡ problem.Refused at cause → report ≡ integrated budget (problem.Refused at cause) →
+    ReportsProblemFile budget bytes report
+file-refused budget bytes at cause report is e =
+    file-other budget bytes (problem.Refused at cause) report is (λ p f. cc) e (λ zero. let three = ap (λ r. r.status) e in omega arith)
+
+pub file-stopped : (budget : ℕ) (bytes : List ℕ) (stop : Stop) (report : Report) → read_problem bytes ≡ problem.Stopped stop → report ≡ integrated budget (problem.Stopped stop) →
+    ReportsProblemFile budget bytes report
+file-stopped budget bytes stop report is e =
+    file-other budget bytes (problem.Stopped stop) report is (λ p f. cc) e (λ zero. stop-not_zero stop (sym (ap (λ r. r.status) e) ∙ zero))
+
+-- ---- certificates
+-- a certificate of the form that the reader gives has that which the check needs
+pub form-certificate : (n : ℕ) (c : Certificate) → IsForm n c → IsCertificate n c
+form-certificate n (Certified it) form = record { part_within = form.part_within; logs_formed = λ k l below. (form.logs k l below).part }
+
+pub same_lines : (c : Certificate) → text.line_count c ≡ line_count c
+same_lines (Certified it) = refl
+
+judged-is : (c : Check) (v : Verdict) (text : List ℕ) → Answers c v → print_check c ≡ Some text → on_out (check_status c) text ≡ judged v
+unfolding print_check print_answer
+judged-is check.Accepted v text h e = let same : _ ≡ text = cc in ap (on_out 0) (sym same) ∙ ap judged (sym h)
+judged-is (check.Refused number left right) v text h e = let same : _ ≡ text = cc in ap (on_out 12) (sym same) ∙ ap judged (sym h)
+judged-is (check.Stopped (Overflow op)) v text h e = let same : _ ≡ text = cc in ap (on_out 4) (sym same) ∙ ap judged (sym h)
+judged-is (check.Stopped Size) v text h e = let same : _ ≡ text = cc in ap (on_out 7) (sym same) ∙ ap judged (sym h)
+judged-is (check.Stopped (Case case)) v text h e = absurd h
+judged-is (check.Stopped (NotSound element)) v text h e = absurd h
+judged-is (check.Stopped Budget) v text h e = absurd h
+judged-is check.Memory v text h e = cc
+
+accepted-holds : (c : Check) (fact : Type 0) → OnAccepted c fact → check_status c ≡ 0 → fact
+accepted-holds check.Accepted fact h zero = h
+accepted-holds (check.Refused number left right) fact h zero = absurd (omega arith)
+accepted-holds (check.Stopped stop) fact h zero = absurd (stop-not_zero stop zero)
+accepted-holds check.Memory fact h zero = absurd (omega arith)
+
+pub certificate-judged : (it : CertifiedValue) (c : Check) (text : List ℕ) (report : Report) →
+    Answers c (checked it.problem.tower it.problem.integrand it.certificate it.lines) →
+    OnAccepted c (IsIntegral (monomials it.problem.tower) (claimed it.certificate) (meaning it.problem.integrand)) →
+    print_check c ≡ Some text → report ≡ on_out (check_status c) text → ReportsCertificate it report
+certificate-judged it c text report rule holds printed e = record {
+  said = e ∙ judged-is c (checked it.problem.tower it.problem.integrand it.certificate it.lines) text rule printed;
+  accepted = λ zero. accepted-holds c (IsIntegral (monomials it.problem.tower) (claimed it.certificate) (meaning it.problem.integrand)) holds (sym (ap (λ r. r.status) e) ∙ zero);
+}
+
+pub file-certified : (bytes : List ℕ) (it : CertifiedValue) (report : Report) → read_certified bytes ≡ certificate.Certified it → IsCertifiedWritten bytes it → ReportsCertificate it report →
+    ReportsCertificateFile bytes report
+file-certified bytes it report read written r = record {
+  said = r.said ∙ ap certified (sym read);
+  accepted = λ zero. record { it = it; read = read; written = written; exact = r.accepted zero };
+}
+
+-- what is no problem with a certificate
+file-no_certificate : (bytes : List ℕ) (read : ReadCertified) (report : Report) → read_certified bytes ≡ read → report ≡ certified read → report.status ≢ 0 → ReportsCertificateFile bytes report
+file-no_certificate bytes read report is e some = record { said = e ∙ ap certified (sym is); accepted = λ zero. absurd (some zero) }
+
+pub certificate-not_yet : (bytes : List ℕ) (report : Report) → read_certified bytes ≡ certificate.NotYet → report ≡ not_yet → ReportsCertificateFile bytes report
+certificate-not_yet bytes report is e = file-no_certificate bytes certificate.NotYet report is e (λ zero. let thirteen = ap (λ r. r.status) e in omega arith)
+
+pub certificate-syntax : (bytes : List ℕ) (at : ℕ) (cause : Cause) (report : Report) → read_certified bytes ≡ certificate.Syntax at cause → report ≡ certified (certificate.Syntax at cause) →
+    ReportsCertificateFile bytes report
+certificate-syntax bytes at cause report is e = file-no_certificate bytes (certificate.Syntax at cause) report is e (λ zero. let three = ap (λ r. r.status) e in omega arith)
+
+pub certificate-refused : (bytes : List ℕ) (at : ℕ) (cause : Refusal) (report : Report) → read_certified bytes ≡ certificate.Refused at cause → report ≡ certified (certificate.Refused at cause) →
+    ReportsCertificateFile bytes report
+certificate-refused bytes at cause report is e = file-no_certificate bytes (certificate.Refused at cause) report is e (λ zero. let three = ap (λ r. r.status) e in omega arith)
+
+pub certificate-stopped : (bytes : List ℕ) (stop : Stop) (report : Report) → read_certified bytes ≡ certificate.Stopped stop → report ≡ certified (certificate.Stopped stop) →
+    ReportsCertificateFile bytes report
+certificate-stopped bytes stop report is e = file-no_certificate bytes (certificate.Stopped stop) report is e (λ zero. stop-not_zero stop (sym (ap (λ r. r.status) e) ∙ zero))
