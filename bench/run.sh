@@ -49,11 +49,23 @@ def wide_sum():
     return "integrate " + "+".join(terms) + "\n"
 
 
+def filled(front, piece):
+    """At most 1 MiB: the front, and the piece again and again."""
+    return front + piece * ((1_048_576 - len(front)) // len(piece))
+
+
+ROOT_SUM = "integrate 1/(x^2+1)\nintegral\npart 0\nsum z^2+1/4 of 2*z+x\nend\n"
+
 INPUTS = [
     ("start-up (no words)", [], ""),
     ("x^254", ["integrate"], "integrate x^254\n"),
     ("a sum of 200 terms", ["integrate"], wide_sum()),
     ("1 MiB of blanks", ["integrate"], " " * 1_048_576),
+    ("1 MiB of digits", ["integrate"], filled("integrate ", "9")),
+    ("1 MiB of parentheses", ["integrate"], filled("integrate ", "(")),
+    ("1 MiB of +x", ["integrate"], filled("integrate x", "+x")),
+    ("1 MiB of comment lines", ["integrate"], filled("", "# a comment\n")),
+    ("a root sum is checked", ["check"], ROOT_SUM),
 ]
 
 

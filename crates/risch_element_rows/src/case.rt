@@ -1,103 +1,81 @@
-// A case of a table: what is played, and what is expected of it.
-use crate::difference::Difference;
-use crate::fault::{Fault, Halt};
-use crate::machine::{element, values};
-use crate::outcome::{Expected, Outcome};
-use crate::report::Report;
+// A case of a table: the calls, what they give, and what is expected.
+use crate::halt::Halt;
 use crate::towers::{Towers, push};
-use crate::value::{Name, Value};
-use crate::word::{Word, push_words, words};
-use risch_tower::Tower;
+use crate::values::Values;
+use crate::{elements, fractions, polynomials, towers, units};
+use risch_tables::{Case, Fault, Report, first_word};
 use std::alloc::{AllocError, Global};
 
+/// A case, whose calls are played as they are read.
 #[derive(Drop)]
-pub struct Case {
+pub struct ElementCase {
     name: String,
-    monomials: Vec<Line>,
-    other_monomials: Vec<Line>,
-    words: Vec<Word>,
-    expected: Option<Expected>,
+    towers: Towers,
+    values: Values,
+    expected: String,
 }
 
-/// A monomial: log or exp of the element that words leave.
-#[derive(Drop)]
-struct Line {
-    name: Name,
-    argument: Vec<Word>,
-}
-
-impl Case {
-    pub fn new(alloc: Global, name: &str) -> Result<Case, AllocError> {
-        Ok(Case {
+impl Case for ElementCase {
+    fn begin(alloc: Global, name: &str) -> Result<ElementCase, AllocError> {
+        Ok(ElementCase {
             name: String::from_str(alloc, name)?,
-            monomials: Vec::new(alloc),
-            other_monomials: Vec::new(alloc),
-            words: Vec::new(alloc),
-            expected: None,
+            towers: Towers::new(alloc),
+            values: Values::new(alloc),
+            expected: String::new(alloc),
         })
     }
 
-    /// Reads a line of the case.
-    pub fn read(&mut self, alloc: Global, key: &str, value: &str) -> Result<(), Fault> {
-        match key {
-            "tower" => push_line(alloc, &mut self.monomials, value),
-            "other" => push_line(alloc, &mut self.other_monomials, value),
-            "do" => push_words(alloc, &mut self.words, value),
-            "is" => self.expect(Expected::values(alloc, value)?),
-            "stops" => self.expect(Expected::stop(value)?),
-            _ => Err(Fault::Key),
+    fn read(&mut self, alloc: Global, key: &str, value: &str) -> Result<(), Fault> {
+        if key == "is" {
+            return self.expect(value);
+        }
+        match self.call(alloc, key, value) {
+            Ok(()) => Ok(()),
+            Err(Halt::Stop(stop)) => Ok(self.values.stop(stop)?),
+            Err(Halt::Fault(fault)) => Err(fault),
         }
     }
 
-    fn expect(&mut self, expected: Expected) -> Result<(), Fault> {
-        match self.expected.replace(expected) {
-            None => Ok(()),
-            Some(_) => Err(Fault::Again),
+    fn end(&self, alloc: Global, report: &mut Report) -> Result<(), Fault> {
+        if self.expected.is_empty() {
+            return Err(Fault::Cause("a case without a line `is`"));
         }
-    }
-
-    /// Plays the case, and tells where it differs from what is expected.
-    pub fn play(&self, alloc: Global, report: &mut Report) -> Result<(), Fault> {
-        let expected = self.expected.as_ref().ok_or(Fault::NotExpected)?;
-        let mut towers = Towers::new(alloc);
-        let got = Outcome::of(self.run(alloc, &mut towers))?;
-        if !expected.is_met(alloc, &towers, &got)? {
-            report.tell(Difference::Case {
-                case: self.name.clone()?,
-                expected: expected.line(alloc)?,
-                got: got.line(alloc)?,
-            })?;
+        if !self.values.are_written(alloc, self.expected.as_str()) {
+            let got = self.values.text(alloc)?;
+            report.differ(alloc, self.name.as_str(), "values", &self.expected, &got)?;
         }
         Ok(())
     }
-
-    fn run(&self, alloc: Global, towers: &mut Towers) -> Result<Vec<Value>, Halt> {
-        towers.other = tower(alloc, &self.other_monomials)?;
-        towers.tower = tower(alloc, &self.monomials)?;
-        values(alloc, towers, &self.words)
-    }
 }
 
-// The tower of these monomials; each argument is played over those before it.
-fn tower(alloc: Global, lines: &[Line]) -> Result<Tower, Halt> {
-    let mut towers = Towers::new(alloc);
-    for line in lines {
-        let argument = element(alloc, &towers, &line.argument)?;
-        push(alloc, &mut towers.tower, line.name, argument)?;
+impl ElementCase {
+    fn expect(&mut self, words: &str) -> Result<(), Fault> {
+        if !self.expected.is_empty() {
+            self.expected.push_str(" ")?;
+        }
+        Ok(self.expected.push_str(words)?)
     }
-    let Towers { tower, .. } = towers;
-    Ok(tower)
-}
 
-// Reads a line, and appends it.
-fn push_line(alloc: Global, lines: &mut Vec<Line>, value: &str) -> Result<(), Fault> {
-    let (name, rest) = value.split_once(' ').unwrap_or((value, ""));
-    let name = match name {
-        "log" => Name::Log,
-        "exp" => Name::Exp,
-        _ => return Err(Fault::Monomial),
-    };
-    let argument = words(alloc, rest)?;
-    lines.push(Line { name, argument })?;
-    Ok(())
+    fn call(&mut self, alloc: Global, key: &str, value: &str) -> Result<(), Halt> {
+        let (call, operands) = first_word(value);
+        match key {
+            "push" => push(alloc, &mut self.towers.tower, call, operands),
+            "push-other" => push(alloc, &mut self.towers.other, call, operands),
+            "fraction" => fractions::play(alloc, call, operands, &mut self.values),
+            "element" => elements::play(
+                alloc,
+                &self.towers.tower,
+                call,
+                operands,
+                &mut self.values,
+            ),
+            "polynomial" => {
+                polynomials::play(alloc, &self.towers.tower, call, operands, &mut self.values)
+            }
+            "coefficients" => polynomials::of(alloc, value, &mut self.values),
+            "tower" => towers::play(alloc, &self.towers, call, operands, &mut self.values),
+            "units" => units::play(call, operands, &mut self.values),
+            _ => Err(Halt::cause("no such key")),
+        }
+    }
 }

@@ -1,8 +1,9 @@
 // The conditions of calls that the library has no test for.
-ghost use Rattle.std.specs.Prelude.{◌≡◌, ◌≤◌, length, IsTrue};
+ghost use Rattle.std.specs.Prelude.{◌≡◌, ◌≤◌, ◌<◌, ◌+◌, length, IsTrue, IfOk};
 ghost use Rattle.risch_polynomial.specs.Poly as poly;
 ghost use Rattle.risch_level.specs.Levels.{element};
 
+use crate::halt::Halt;
 use risch_elem::{Elem, ElemList, Poly};
 
 /// Whether a polynomial has a degree of at least 1.
@@ -37,4 +38,15 @@ pub fn are_coefficients(coefficients: &ElemList) -> bool
 {
     let coefficients = coefficients.as_slice();
     coefficients.len() <= 256 && weigh(coefficients) <= 65536
+}
+
+/// The level, where an element lies in it.
+pub fn level_of(element: &Elem, level: u8) -> Result<u8, Halt>
+    requires { level < 5 }
+    ensures { IfOk result (λ it. it ≡ level) }
+{
+    if !element.is_within(level + 1) {
+        return Err(Halt::cause("an element that does not lie in the level"));
+    }
+    Ok(level)
 }

@@ -1,75 +1,85 @@
-// The words of elements.
-use crate::calls;
-use crate::fault::{Fault, Halt};
-use crate::stack::Stack;
-use crate::value::{Name, Value};
-use crate::word::ElementCall;
+// The calls of elements.
+use crate::conditions::level_of;
+use crate::halt::Halt;
+use crate::operands::{elements, level};
+use crate::values::Values;
 use risch_elem::Elem;
+use risch_tower::Tower;
 use std::alloc::Global;
 
-/// Plays a word on the highest values of a stack.
-pub fn play(alloc: Global, stack: &mut Stack, word: ElementCall) -> Result<(), Halt> {
-    match word {
-        ElementCall::OfNumber => of_number(stack),
-        ElementCall::Number => number(stack),
-        ElementCall::Level => level(stack),
-        ElementCall::Weight => weight(stack),
-        ElementCall::Numerator => numerator(alloc, stack),
-        ElementCall::Denominator => denominator(alloc, stack),
-        ElementCall::Quotient => quotient(alloc, stack),
+/// Plays a call over a tower.
+pub fn play(
+    alloc: Global,
+    tower: &Tower,
+    call: &str,
+    operands: &str,
+    values: &mut Values,
+) -> Result<(), Halt> {
+    let operands = elements(alloc, operands)?;
+    match operands.as_slice() {
+        [a] => of_one(alloc, tower, call, a, values),
+        [a, b] => of_two(alloc, call, a, b, values),
+        _ => Err(Halt::cause("no such call")),
     }
 }
 
-fn of_number(stack: &mut Stack) -> Result<(), Halt> {
-    let number = stack.number()?;
-    stack.push(Value::Element(Elem::num(number)))
-}
-
-fn level(stack: &mut Stack) -> Result<(), Halt> {
-    let level = stack.element()?.level();
-    stack.push(Value::whole(level.map(u64::from)))
-}
-
-fn weight(stack: &mut Stack) -> Result<(), Halt> {
-    let value = stack.pop()?;
-    let weight = weight_of(&value)?;
-    stack.push(Value::whole(Some(u64::from(weight))))
-}
-
-fn weight_of(value: &Value) -> Result<u32, Fault> {
-    match value {
-        Value::Number(number) => Ok(Elem::num(*number).weight()),
-        Value::Element(element) => Ok(element.weight()),
-        Value::Polynomial(polynomial) => Ok(polynomial.weight()),
-        _ => Err(Fault::Kind),
+fn of_one(
+    alloc: Global,
+    tower: &Tower,
+    call: &str,
+    a: &Elem,
+    values: &mut Values,
+) -> Result<(), Halt> {
+    match call {
+        "variable" => variable(alloc, a, values),
+        "as_num" => values.number(a.as_num()),
+        "level" => values.whole(a.level().map(u64::from)),
+        "weight" => values.whole(Some(u64::from(a.weight()))),
+        "is_zero" => values.answer(a.is_zero()),
+        "copy" => values.element(a.copy(alloc)?),
+        "neg" => values.element(a.neg(alloc)?),
+        "derive" => derive(alloc, tower, a, values),
+        _ => Err(Halt::cause("no such call")),
     }
 }
 
-fn number(stack: &mut Stack) -> Result<(), Halt> {
-    match stack.element()?.as_num() {
-        Some(number) => stack.push(Value::Number(number)),
-        None => stack.push(Value::Name(Name::None)),
+fn of_two(alloc: Global, call: &str, a: &Elem, b: &Elem, values: &mut Values) -> Result<(), Halt> {
+    match call {
+        "same" => values.answer(a.same(b)),
+        "add" => values.element(a.add(alloc, b)?),
+        "mul" => values.element(a.mul(alloc, b)?),
+        "div" => div(alloc, a, b, values),
+        "num_poly" => num_poly(alloc, a, b, values),
+        "den_poly" => den_poly(alloc, a, b, values),
+        _ => Err(Halt::cause("no such call")),
     }
 }
 
-fn numerator(alloc: Global, stack: &mut Stack) -> Result<(), Halt> {
-    let level = stack.level()?;
-    let element = stack.element()?;
-    let numerator = calls::numerator(alloc, &element, level)?;
-    stack.push(Value::Polynomial(numerator))
+fn variable(alloc: Global, at: &Elem, values: &mut Values) -> Result<(), Halt> {
+    let level = level(at.as_num())?;
+    values.element(Elem::variable(alloc, level)?)
 }
 
-fn denominator(alloc: Global, stack: &mut Stack) -> Result<(), Halt> {
-    let level = stack.level()?;
-    let element = stack.element()?;
-    let denominator = calls::denominator(alloc, &element, level)?;
-    stack.push(Value::Polynomial(denominator))
+fn div(alloc: Global, a: &Elem, b: &Elem, values: &mut Values) -> Result<(), Halt> {
+    if b.is_zero() {
+        return Err(Halt::cause("a division by 0"));
+    }
+    values.element(a.div(alloc, b)?)
 }
 
-fn quotient(alloc: Global, stack: &mut Stack) -> Result<(), Halt> {
-    let level = stack.level()?;
-    let den = stack.polynomial()?;
-    let num = stack.polynomial()?;
-    let quotient = calls::quotient(alloc, &num, &den, level)?;
-    stack.push(Value::Element(quotient))
+fn num_poly(alloc: Global, a: &Elem, at: &Elem, values: &mut Values) -> Result<(), Halt> {
+    let level = level_of(a, level(at.as_num())?)?;
+    values.polynomial(a.num_poly(alloc, level)?)
+}
+
+fn den_poly(alloc: Global, a: &Elem, at: &Elem, values: &mut Values) -> Result<(), Halt> {
+    let level = level_of(a, level(at.as_num())?)?;
+    values.polynomial(a.den_poly(alloc, level)?)
+}
+
+fn derive(alloc: Global, tower: &Tower, a: &Elem, values: &mut Values) -> Result<(), Halt> {
+    if !a.is_within(tower.height() + 1) {
+        return Err(Halt::cause("an element that does not lie in the tower"));
+    }
+    values.element(tower.derive(alloc, a)?)
 }

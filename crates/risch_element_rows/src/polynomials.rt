@@ -1,86 +1,170 @@
-// The words of polynomials.
-use crate::calls;
-use crate::fault::Halt;
-use crate::stack::Stack;
-use crate::value::{Name, Value};
-use crate::word::PolynomialCall;
+// The calls of polynomials.
+use crate::conditions::{are_coefficients, is_modulus};
+use crate::halt::Halt;
+use crate::operands::{constant, elements, exponent, level, polynomials};
+use crate::values::Values;
+use risch_elem::{Elem, ElemList, Poly};
+use risch_tower::Tower;
 use std::alloc::Global;
 
-/// Plays a word on the highest values of a stack.
-pub fn play(alloc: Global, stack: &mut Stack, word: PolynomialCall) -> Result<(), Halt> {
-    match word {
-        PolynomialCall::Degree => degree(stack),
-        PolynomialCall::Coefficient => coefficient(alloc, stack),
-        PolynomialCall::Scale => scale(alloc, stack),
-        PolynomialCall::Monic => monic(alloc, stack),
-        PolynomialCall::Partial => partial(alloc, stack),
-        PolynomialCall::Divide => divide(alloc, stack),
-        PolynomialCall::CommonDivisor => common_divisor(alloc, stack),
-        PolynomialCall::Inverse => inverse(alloc, stack),
-        PolynomialCall::Solve => solve(alloc, stack),
+/// Plays a call over a tower.
+pub fn play(
+    alloc: Global,
+    tower: &Tower,
+    call: &str,
+    operands: &str,
+    values: &mut Values,
+) -> Result<(), Halt> {
+    let operands = polynomials(alloc, operands)?;
+    match operands.as_slice() {
+        [a] => of_one(alloc, call, a, values),
+        [a, b] => of_two(alloc, tower, call, a, b, values),
+        [a, b, c] => of_three(alloc, call, a, b, c, values),
+        _ => Err(Halt::cause("no such call")),
     }
 }
 
-fn degree(stack: &mut Stack) -> Result<(), Halt> {
-    let degree = stack.polynomial()?.degree();
-    stack.push(Value::whole(degree.map(u64::from)))
-}
-
-fn coefficient(alloc: Global, stack: &mut Stack) -> Result<(), Halt> {
-    let exponent = stack.count()?;
-    let polynomial = stack.polynomial()?;
-    match polynomial.coefficient(exponent) {
-        Some(coefficient) => stack.push(Value::Element(coefficient.copy(alloc)?)),
-        None => stack.push(Value::Name(Name::None)),
+fn of_one(alloc: Global, call: &str, a: &Poly, values: &mut Values) -> Result<(), Halt> {
+    match call {
+        "degree" => values.whole(a.degree().map(u64::from)),
+        "weight" => values.whole(Some(u64::from(a.weight()))),
+        "is_zero" => values.answer(a.is_zero()),
+        "copy" => values.polynomial(a.copy(alloc)?),
+        "neg" => values.polynomial(a.neg(alloc)?),
+        "monic" => values.polynomial(a.monic(alloc)?),
+        "partial" => values.polynomial(a.partial(alloc)?),
+        _ => Err(Halt::cause("no such call")),
     }
 }
 
-fn scale(alloc: Global, stack: &mut Stack) -> Result<(), Halt> {
-    let factor = stack.element()?;
-    let polynomial = stack.polynomial()?;
-    let multiple = polynomial.scale(alloc, &factor)?;
-    stack.push(Value::Polynomial(multiple))
-}
-
-fn monic(alloc: Global, stack: &mut Stack) -> Result<(), Halt> {
-    let monic = stack.polynomial()?.monic(alloc)?;
-    stack.push(Value::Polynomial(monic))
-}
-
-fn partial(alloc: Global, stack: &mut Stack) -> Result<(), Halt> {
-    let partial = stack.polynomial()?.partial(alloc)?;
-    stack.push(Value::Polynomial(partial))
-}
-
-fn divide(alloc: Global, stack: &mut Stack) -> Result<(), Halt> {
-    let right = stack.polynomial()?;
-    let left = stack.polynomial()?;
-    let (quotient, remainder) = calls::divide(alloc, &left, &right)?;
-    stack.push(Value::Polynomial(quotient))?;
-    stack.push(Value::Polynomial(remainder))
-}
-
-fn common_divisor(alloc: Global, stack: &mut Stack) -> Result<(), Halt> {
-    let right = stack.polynomial()?;
-    let left = stack.polynomial()?;
-    let divisor = calls::common_divisor(alloc, &left, &right)?;
-    stack.push(Value::Polynomial(divisor))
-}
-
-fn inverse(alloc: Global, stack: &mut Stack) -> Result<(), Halt> {
-    let modulus = stack.polynomial()?;
-    let polynomial = stack.polynomial()?;
-    match calls::inverse(alloc, &polynomial, &modulus)? {
-        Some(inverse) => stack.push(Value::Polynomial(inverse)),
-        None => stack.push(Value::Name(Name::None)),
+fn of_two(
+    alloc: Global,
+    tower: &Tower,
+    call: &str,
+    a: &Poly,
+    b: &Poly,
+    values: &mut Values,
+) -> Result<(), Halt> {
+    match call {
+        "same" => values.answer(a.same(b)),
+        "add" => values.polynomial(a.add(alloc, b)?),
+        "mul" => values.polynomial(a.mul(alloc, b)?),
+        "scale" => scale(alloc, a, b, values),
+        "coefficient" => coefficient(alloc, a, b, values),
+        "div_rem" => div_rem(alloc, a, b, values),
+        "gcd" => gcd(alloc, a, b, values),
+        "inverse_mod" => inverse_mod(alloc, a, b, values),
+        "derive_poly" => derive_poly(alloc, tower, a, b, values),
+        _ => Err(Halt::cause("no such call")),
     }
 }
 
-fn solve(alloc: Global, stack: &mut Stack) -> Result<(), Halt> {
-    let c = stack.polynomial()?;
-    let b = stack.polynomial()?;
-    let a = stack.polynomial()?;
-    let (r, z) = calls::solve(alloc, &a, &b, &c)?;
-    stack.push(Value::Polynomial(r))?;
-    stack.push(Value::Polynomial(z))
+fn of_three(
+    alloc: Global,
+    call: &str,
+    a: &Poly,
+    b: &Poly,
+    c: &Poly,
+    values: &mut Values,
+) -> Result<(), Halt> {
+    match call {
+        "quotient" => quotient(alloc, a, b, c, values),
+        "solve_mod" => solve_mod(alloc, a, b, c, values),
+        _ => Err(Halt::cause("no such call")),
+    }
+}
+
+/// Plays the call that makes a polynomial of its coefficients.
+pub fn of(alloc: Global, operands: &str, values: &mut Values) -> Result<(), Halt> {
+    let coefficients = ElemList::from_vec(elements(alloc, operands)?);
+    if !are_coefficients(&coefficients) {
+        return Err(Halt::cause("a polynomial beyond the limits"));
+    }
+    values.polynomial(Poly::of(coefficients)?)
+}
+
+fn scale(alloc: Global, a: &Poly, by: &Poly, values: &mut Values) -> Result<(), Halt> {
+    let factor = constant(alloc, by)?;
+    values.polynomial(a.scale(alloc, &factor)?)
+}
+
+fn coefficient(alloc: Global, a: &Poly, at: &Poly, values: &mut Values) -> Result<(), Halt> {
+    let exponent = exponent(constant(alloc, at)?.as_num())?;
+    match a.coefficient(exponent) {
+        Some(coefficient) => values.element(coefficient.copy(alloc)?),
+        None => values.name("none"),
+    }
+}
+
+fn div_rem(alloc: Global, a: &Poly, b: &Poly, values: &mut Values) -> Result<(), Halt> {
+    if b.is_zero() {
+        return Err(Halt::cause("a division by 0"));
+    }
+    let (quotient, remainder) = a.div_rem(alloc, b)?;
+    values.polynomial(quotient)?;
+    values.polynomial(remainder)
+}
+
+fn gcd(alloc: Global, a: &Poly, b: &Poly, values: &mut Values) -> Result<(), Halt> {
+    if a.is_zero() && b.is_zero() {
+        return Err(Halt::cause("no common divisor of 0 and 0"));
+    }
+    values.polynomial(a.gcd(alloc, b)?)
+}
+
+fn inverse_mod(alloc: Global, b: &Poly, a: &Poly, values: &mut Values) -> Result<(), Halt> {
+    if !is_modulus(a) {
+        return Err(Halt::cause("a modulus of degree below 1"));
+    }
+    match b.inverse_mod(alloc, a)? {
+        Some(inverse) => values.polynomial(inverse),
+        None => values.name("none"),
+    }
+}
+
+fn derive_poly(
+    alloc: Global,
+    tower: &Tower,
+    a: &Poly,
+    at: &Poly,
+    values: &mut Values,
+) -> Result<(), Halt> {
+    let level = level(constant(alloc, at)?.as_num())?;
+    if level > tower.height() {
+        return Err(Halt::cause("no such level"));
+    }
+    if !a.is_within(level) {
+        return Err(Halt::cause("a coefficient that does not lie below the level"));
+    }
+    values.polynomial(tower.derive_poly(alloc, level, a)?)
+}
+
+fn quotient(
+    alloc: Global,
+    num: &Poly,
+    den: &Poly,
+    at: &Poly,
+    values: &mut Values,
+) -> Result<(), Halt> {
+    let level = level(constant(alloc, at)?.as_num())?;
+    if den.is_zero() {
+        return Err(Halt::cause("a division by 0"));
+    }
+    if !num.is_within(level) || !den.is_within(level) {
+        return Err(Halt::cause("a coefficient that does not lie below the level"));
+    }
+    values.element(Elem::quotient(alloc, level, num, den)?)
+}
+
+/// r and z with b·r + a·z = c, for coprime a and b. The test of this has the stops that the rule begins with.
+fn solve_mod(alloc: Global, a: &Poly, b: &Poly, c: &Poly, values: &mut Values) -> Result<(), Halt> {
+    if !is_modulus(a) {
+        return Err(Halt::cause("a modulus of degree below 1"));
+    }
+    if !a.is_coprime(alloc, b)? {
+        return Err(Halt::cause("polynomials that are not coprime"));
+    }
+    let (r, z) = Poly::solve_mod(alloc, a, b, c)?;
+    values.polynomial(r)?;
+    values.polynomial(z)
 }

@@ -1,9 +1,7 @@
-// The words of towers.
-use crate::calls;
-use crate::fault::Halt;
-use crate::stack::Stack;
-use crate::value::{Name, Value};
-use crate::word::TowerCall;
+// The calls of towers.
+use crate::halt::Halt;
+use crate::operands::{element, elements, level};
+use crate::values::Values;
 use risch_elem::Elem;
 use risch_tower::{Kind, Monomial, Tower};
 use std::alloc::Global;
@@ -24,77 +22,76 @@ impl Towers {
     }
 }
 
-/// Plays a word on the highest values of a stack.
+/// Plays a call.
 pub fn play(
     alloc: Global,
     towers: &Towers,
-    stack: &mut Stack,
-    word: TowerCall,
+    call: &str,
+    operands: &str,
+    values: &mut Values,
 ) -> Result<(), Halt> {
-    match word {
-        TowerCall::Derive => derive(alloc, &towers.tower, stack),
-        TowerCall::DerivePolynomial => derive_polynomial(alloc, &towers.tower, stack),
-        TowerCall::Height => height(&towers.tower, stack),
-        TowerCall::Kind => kind(&towers.tower, stack),
-        TowerCall::Eta => eta(alloc, &towers.tower, stack),
-        TowerCall::Pushed => pushed(alloc, &towers.tower, stack),
-        TowerCall::Same => same(towers, stack),
+    let operands = elements(alloc, operands)?;
+    match operands.as_slice() {
+        [] => of_none(towers, call, values),
+        [at] => of_level(alloc, &towers.tower, call, level(at.as_num())?, values),
+        _ => Err(Halt::cause("no such call")),
     }
 }
 
-fn derive(alloc: Global, tower: &Tower, stack: &mut Stack) -> Result<(), Halt> {
-    let element = stack.element()?;
-    let derivative = calls::derive(alloc, tower, &element)?;
-    stack.push(Value::Element(derivative))
-}
-
-fn derive_polynomial(alloc: Global, tower: &Tower, stack: &mut Stack) -> Result<(), Halt> {
-    let level = stack.level()?;
-    let polynomial = stack.polynomial()?;
-    let derivative = calls::derive_polynomial(alloc, tower, &polynomial, level)?;
-    stack.push(Value::Polynomial(derivative))
-}
-
-fn height(tower: &Tower, stack: &mut Stack) -> Result<(), Halt> {
-    let height = tower.height();
-    stack.push(Value::whole(Some(u64::from(height))))
-}
-
-fn same(towers: &Towers, stack: &mut Stack) -> Result<(), Halt> {
-    let answer = towers.tower.same(&towers.other);
-    stack.push(Value::yes(answer))
-}
-
-fn kind(tower: &Tower, stack: &mut Stack) -> Result<(), Halt> {
-    let level = stack.level()?;
-    match calls::kind(tower, level)? {
-        Kind::Primitive => stack.push(Value::Name(Name::Primitive)),
-        Kind::Exponential => stack.push(Value::Name(Name::Exponential)),
+fn of_none(towers: &Towers, call: &str, values: &mut Values) -> Result<(), Halt> {
+    match call {
+        "height" => values.whole(Some(u64::from(towers.tower.height()))),
+        "same" => values.answer(towers.tower.same(&towers.other)),
+        _ => Err(Halt::cause("no such call")),
     }
 }
 
-fn eta(alloc: Global, tower: &Tower, stack: &mut Stack) -> Result<(), Halt> {
-    let level = stack.level()?;
-    let eta = calls::eta(alloc, tower, level)?;
-    stack.push(Value::Element(eta))
+fn of_level(
+    alloc: Global,
+    tower: &Tower,
+    call: &str,
+    level: u8,
+    values: &mut Values,
+) -> Result<(), Halt> {
+    if level > tower.height() {
+        return Err(Halt::cause("no such level"));
+    }
+    match call {
+        "kind" => kind(tower.kind(level), values),
+        "eta" => values.element(tower.eta(level).copy(alloc)?),
+        "pushed" if level > 0 => pushed(alloc, tower.pushed(level), values),
+        _ => Err(Halt::cause("no such call")),
+    }
 }
 
-fn pushed(alloc: Global, tower: &Tower, stack: &mut Stack) -> Result<(), Halt> {
-    let level = stack.level()?;
-    let (argument, name) = match calls::pushed(tower, level)? {
-        Monomial::Log(argument) => (argument, Name::Log),
-        Monomial::Exp(argument) => (argument, Name::Exp),
-    };
-    let argument = argument.copy(alloc)?;
-    stack.push(Value::Element(argument))?;
-    stack.push(Value::Name(name))
+fn kind(kind: Kind, values: &mut Values) -> Result<(), Halt> {
+    values.name(match kind {
+        Kind::Primitive => "primitive",
+        Kind::Exponential => "exponential",
+    })
 }
 
-/// Pushes log or exp of an argument on a tower.
-pub fn push(alloc: Global, tower: &mut Tower, name: Name, argument: Elem) -> Result<(), Halt> {
-    let monomial = match name {
-        Name::Log => Monomial::Log(argument),
-        _ => Monomial::Exp(argument),
-    };
-    calls::push(alloc, tower, monomial)
+fn pushed(alloc: Global, monomial: &Monomial, values: &mut Values) -> Result<(), Halt> {
+    values.element(monomial.argument().copy(alloc)?)?;
+    values.name(match monomial {
+        Monomial::Log(_) => "log",
+        Monomial::Exp(_) => "exp",
+    })
+}
+
+/// Pushes the logarithm or the exponential of an argument on a tower.
+pub fn push(alloc: Global, tower: &mut Tower, kind: &str, argument: &str) -> Result<(), Halt> {
+    let monomial = monomial(kind, element(alloc, argument)?)?;
+    if !monomial.argument().is_within(tower.height() + 1) {
+        return Err(Halt::cause("an element that does not lie in the tower"));
+    }
+    Ok(tower.push(alloc, monomial)?)
+}
+
+fn monomial(kind: &str, argument: Elem) -> Result<Monomial, Halt> {
+    match kind {
+        "log" => Ok(Monomial::Log(argument)),
+        "exp" => Ok(Monomial::Exp(argument)),
+        _ => Err(Halt::cause("neither log nor exp")),
+    }
 }

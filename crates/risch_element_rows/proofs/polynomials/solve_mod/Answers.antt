@@ -1,5 +1,5 @@
 -- The polynomials are coprime where the test says so.
-use Rattle.risch_element_rows.proofs.calls.solve.Goals as goal
+use Rattle.risch_element_rows.proofs.polynomials.solve_mod.Goals as goal
 
 pub solve_mod-requires-clause-coprime : goal.solve_mod-requires-clause-coprime
 solve_mod-requires-clause-coprime c = c.in_ok-is_coprime.ensures.meaning.0 c.if-not-branch.false
