@@ -1,0 +1,5 @@
+pub mod PowerTraceRules
+pub mod PowerTraceSteps
+pub mod SquareFreeParts
+pub mod SquareFreeRules
+pub mod SquareFreeSteps

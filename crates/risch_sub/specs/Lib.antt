@@ -1,0 +1,4 @@
+pub mod SquareFree
+pub mod SquareFreeMeaning
+pub mod PowerTraces
+pub mod PowerTracesMeaning
