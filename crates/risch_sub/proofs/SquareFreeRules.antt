@@ -48,7 +48,7 @@ element_tells_one = level_tells_one 5
 size-is : (p : List Element) → IsPolynomial p → size elements (polynomial p) ≡ length p
 size-is p k = Rules.size-polynomial_of elements element_interprets p k
 
-monic-not_nil : (p : List Element) → IsMonic elements (polynomial p) → ¬ (p ≡ [])
+pub monic-not_nil : (p : List Element) → IsMonic elements (polynomial p) → ¬ (p ≡ [])
 monic-not_nil p m e = Gcd.monic-nonzero elements (polynomial p) m (ap polynomial e ∙ Rules.polynomial_of-nil elements element_interprets)
 
 monic-size : (p : List Element) → IsMonic elements (polynomial p) → 1 ≤ size elements (polynomial p)

@@ -20,3 +20,15 @@ pub(crate) fn wrapped(alloc: Global, from: Items<Inner>) -> Result<PolyList, All
     }
     Ok(to)
 }
+
+/// The same polynomials by the arithmetic that is whole over every field.
+pub(crate) fn unwrapped(alloc: Global, from: &[Poly]) -> Result<Items<Inner>, AllocError>
+    ensures value { IfOk result (λ it. it ≡ from.now) }
+    ensures normal { IfOk result (λ it. All IsPolynomial it) }
+{
+    let mut to = Items::new(alloc);
+    for poly in from {
+        to.push(poly.inner().copy(alloc)?)?;
+    }
+    Ok(to)
+}

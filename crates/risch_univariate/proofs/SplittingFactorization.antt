@@ -149,7 +149,7 @@ module _ {A : Type 0} (F : Field A) (char : HasCharacteristicZero F.ring) (D : D
         go v = Gcd.gcd-greatest F d (D.derive d) (f ^ k) to_d (to_derivative v.exponent v.is_multiplicity)
 
     -- with gcd(d, D(d)) = S·gcd(d, ∂d): an irreducible factor of S is special
-    factor_of_step : (S : Polynomial F) → derivative_gcd d ≡ S * formal_gcd d → f ∣ S → IsSpecial F D f
+    pub factor_of_step : (S : Polynomial F) → derivative_gcd d ≡ S * formal_gcd d → f ∣ S → IsSpecial F D f
     factor_of_step S e h = go (normal_or_special f i)
       where
         to_d : f ∣ d
@@ -172,7 +172,7 @@ module _ {A : Type 0} (F : Field A) (char : HasCharacteristicZero F.ring) (D : D
         go (inr s) = s
 
     -- a special irreducible factor of d divides S
-    special-divides_step : (S : Polynomial F) → derivative_gcd d ≡ S * formal_gcd d → IsSpecial F D f → f ∣ d → f ∣ S
+    pub special-divides_step : (S : Polynomial F) → derivative_gcd d ≡ S * formal_gcd d → IsSpecial F D f → f ∣ d → f ∣ S
     special-divides_step S e s h = go (Irreducible.multiplicity_of F f d i.not_constant nonzero)
       where
         cases : (k : ℕ) → IsMultiplicity F f d k → f ∣ S
@@ -193,6 +193,20 @@ module _ {A : Type 0} (F : Field A) (char : HasCharacteristicZero F.ring) (D : D
 
         go : Irreducible.Multiplicity F f d → f ∣ S
         go v = cases v.exponent v.is_multiplicity
+
+    -- where S is a constant, an irreducible factor of d is normal
+    pub normal_of_end : (S : Polynomial F) → derivative_gcd d ≡ S * formal_gcd d → size F S ≤ 1 → f ∣ d → IsNormal F D f
+    normal_of_end S e small h = go (normal_or_special f i)
+      where
+        some : ¬ (S ≡ 𝟘)
+        some = Degree.nonzero_of_mul_left F S (formal_gcd d) (λ z. Gcd.gcd-nonzero_left F d (D.derive d) nonzero (e ∙ z))
+
+        go : IsNormal F D f ⊎ IsSpecial F D f → IsNormal F D f
+        go (inl n) = n
+        go (inr s) =
+            let a = Divides.size-divides F f S (special-divides_step S e s h) some in
+            let b = i.not_constant in
+            absurd (omega (arith, a, b, small))
 
   -- gcd(d, ∂d) | gcd(d, D(d)), for the quotient S
   pub step-divides : (d : Polynomial F) → ¬ (d ≡ 𝟘) → formal_gcd d ∣ derivative_gcd d
@@ -225,17 +239,9 @@ module _ {A : Type 0} (F : Field A) (char : HasCharacteristicZero F.ring) (D : D
         equation = sym (R.mul-one d);
         normal_is_monic = monic;
         special_is_monic = Gcd.one-is_monic F;
-        normal_factors = λ f i m k. from f i k (normal_or_special f i);
+        normal_factors = λ f i m k. normal_of_end d h f i step.cofactor step.equation small k;
         special_factors = λ f i m k. absurd (Irreducible.irreducible-not_unit F f i k);
       }
-        where
-          from : (f : Polynomial F) → IsIrreducible F f → f ∣ d → IsNormal F D f ⊎ IsSpecial F D f → IsNormal F D f
-          from f i k (inl x) = x
-          from f i k (inr s) =
-              let a = Divides.size-divides F f step.cofactor (special-divides_step d h f i step.cofactor step.equation s k)
-              (Divides.cofactor-nonzero F (formal_gcd d) (derivative_gcd d) step (Gcd.gcd-nonzero_left F d (D.derive d) h)) in
-              let b = i.not_constant in
-              absurd (omega (arith, a, b, small))
       go (no large) ih = record {
         normal = rest.normal;
         special = step.cofactor * rest.special;

@@ -1,0 +1,61 @@
+-- The rule of the parts of d: it has at least as many steps as d has coefficients, and what its steps give is the rule's.
+use Rattle.std.specs.Prelude.{if◌then◌else◌}
+use Rattle.std.proofs.Common.{◌≡◌, ℕ, zero, suc, ◌≤◌, ◌<◌, Bool, true, false, List, length, Result, Ok, Err, refl, sym, ap, ap₂, arith}
+use Rattle.risch_field.specs.Checked.{Checked, and_then, Agrees, IsStopOf}
+use Rattle.risch_field.specs.declared.Fail.{Fail}
+use Rattle.risch_field.proofs.CheckedSteps.{stop_passes, value_passes}
+use Rattle.risch_polynomial.specs.Poly as poly
+use Rattle.risch_level.specs.Levels.{Element, element}
+use Rattle.risch_tower.specs.declared.level.Level.{Level}
+use Rattle.risch_split.specs.declared.splitting.Split.{Split}
+use Rattle.risch_split.specs.Splitting.{one, special_factor, with_factor, parts_with, parts_in}
+
+abbrev formed : List Element → List Element → Checked Split
+formed n s = Ok (record { normal = n; special = s })
+
+module _ (tower : List Level) (level : ℕ) (d : List Element) (some : 0 < length d) where
+  -- of one step
+  abbrev next : ℕ → List Element → Checked Split
+  next m s = parts_with tower level (parts_in tower level m) d s
+
+  -- what agrees with one step and the rest agrees with the rule
+  pub step-agrees : (result : Result Split Fail) → ((m : ℕ) → length d ≤ suc m → Agrees result (and_then (special_factor tower level d) (next m))) → (steps : ℕ) → length d ≤ steps → Agrees result (parts_in tower level steps d)
+  step-agrees result h zero l = absurd (omega arith)
+  step-agrees result h (suc m) l = h m l
+
+  pub factor-stops : (stop : Fail) → IsStopOf stop (special_factor tower level d) → (steps : ℕ) → length d ≤ steps → Agrees {A = Split} (Err stop) (parts_in tower level steps d)
+  factor-stops stop h = step-agrees (Err stop) (λ m l. stop_passes stop (special_factor tower level d) (next m) h)
+
+  module _ (s : List Element) (factor : special_factor tower level d ≡ Ok s) where
+    step-with : (result : Result Split Fail) → ((m : ℕ) → length d ≤ suc m → Agrees result (next m s)) → (steps : ℕ) → length d ≤ steps → Agrees result (parts_in tower level steps d)
+    step-with result h = step-agrees result (λ m l. value_passes result (special_factor tower level d) (next m) s factor (h m l))
+
+    -- S = 1
+    pub parts-ended : (split : Split) → poly.is_one element s ≡ true → split.normal ≡ d → split.special ≡ one → (steps : ℕ) → length d ≤ steps → Agrees (Ok split) (parts_in tower level steps d)
+    parts-ended split is_one n_is s_is = step-with (Ok split) (λ m l. rw is_one (ap₂ formed (sym n_is) (sym s_is)))
+
+    -- a stop of d quo S
+    pub quotient-stops : (stop : Fail) → poly.is_one element s ≡ false → IsStopOf stop (poly.division element d s) → (steps : ℕ) → length d ≤ steps → Agrees {A = Split} (Err stop) (parts_in tower level steps d)
+    unfolding poly.quo
+    quotient-stops stop other h = step-with (Err stop) (λ m l. rw other
+        (stop_passes stop (poly.quo element d s) (λ q. and_then (parts_in tower level m q) (with_factor tower level s)) (stop_passes stop (poly.division element d s) (λ x. Ok x.0) h)))
+
+    module _ (q r : List Element) (other : poly.is_one element s ≡ false) (quotient : poly.division element d s ≡ Ok (q, r)) (shorter : length q < length d) where
+      step-rest : (result : Result Split Fail) → ((m : ℕ) → length q ≤ m → Agrees result (and_then (parts_in tower level m q) (with_factor tower level s))) → (steps : ℕ) → length d ≤ steps →
+          Agrees result (parts_in tower level steps d)
+      unfolding poly.quo
+      step-rest result h = step-with result (λ m l. rw other
+          (value_passes result (poly.quo element d s) (λ q. and_then (parts_in tower level m q) (with_factor tower level s)) q (rw quotient refl) (h m (omega arith))))
+
+      pub rest-stops : (stop : Fail) → ((m : ℕ) → length q ≤ m → Agrees {A = Split} (Err stop) (parts_in tower level m q)) → (steps : ℕ) → length d ≤ steps → Agrees {A = Split} (Err stop) (parts_in tower level steps d)
+      rest-stops stop h = step-rest (Err stop) (λ m l. stop_passes stop (parts_in tower level m q) (with_factor tower level s) (h m l))
+
+      module _ (split : Split) (rest : (m : ℕ) → length q ≤ m → Agrees (Ok split) (parts_in tower level m q)) where
+        step-product : (result : Result Split Fail) → Agrees result (with_factor tower level s split) → (steps : ℕ) → length d ≤ steps → Agrees result (parts_in tower level steps d)
+        step-product result h = step-rest result (λ m l. value_passes result (parts_in tower level m q) (with_factor tower level s) split (rest m l) h)
+
+        pub product-stops : (stop : Fail) → IsStopOf stop (poly.product element s split.special) → (steps : ℕ) → length d ≤ steps → Agrees {A = Split} (Err stop) (parts_in tower level steps d)
+        product-stops stop h = step-product (Err stop) (stop_passes stop (poly.product element s split.special) (λ special. Ok (record { normal = split.normal; special = special })) h)
+
+        pub parts-found : (parts : Split) → poly.product element s split.special ≡ Ok parts.special → parts.normal ≡ split.normal → (steps : ℕ) → length d ≤ steps → Agrees (Ok parts) (parts_in tower level steps d)
+        parts-found parts p n_is = step-product (Ok parts) (value_passes (Ok parts) (poly.product element s split.special) (λ special. Ok (record { normal = split.normal; special = special })) parts.special p (ap (λ n. formed n parts.special) (sym n_is)))

@@ -1,0 +1,5 @@
+pub mod Splitting
+pub mod Canonical
+pub mod LevelDerivation
+pub mod SplittingMeaning
+pub mod SplittingSteps
