@@ -10,9 +10,9 @@ ghost use Rattle.risch_split.specs.Splitting as spec;
 ghost use Rattle.risch_split.specs.SplittingMeaning.{IsSplitting, IsNewConstant};
 ghost use Rattle.risch_split.specs.SplittingSteps.{IsStep, AreParts};
 
-use crate::level::level_of;
-use crate::special::{new_constant, one};
+use crate::special::new_constant;
 use risch_elem::{Fail, Poly, Stop};
+use risch_monomial::{level_of, one};
 use risch_run::Ended;
 use risch_tower::Tower;
 use std::alloc::{AllocError, Global};

@@ -1,6 +1,6 @@
 use Rattle.std.proofs.Common.{arith}
-use Rattle.risch_split.proofs.LevelPolynomials.{derivative-stands}
-use Rattle.risch_split.proofs.MonicPolynomials.{monic-length}
+use Rattle.risch_monomial.proofs.LevelPolynomials.{derivative-stands}
+use Rattle.risch_monomial.proofs.MonicPolynomials.{monic-length}
 use Rattle.risch_split.proofs.SpecialFactors.{step-of}
 use Rattle.risch_split.proofs.splitting.special_factor.Goals as goal
 

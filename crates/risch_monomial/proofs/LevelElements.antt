@@ -8,14 +8,16 @@ use Rattle.risch_mean.specs.Element as mean
 use Rattle.risch_mean.specs.Element.{variable, ◌*ₑ◌}
 use Rattle.risch_mean.specs.ElementField.{elements}
 use Rattle.risch_level.specs.Levels.{Element, element}
+use Rattle.risch_field.specs.Checked.{and_then}
+use Rattle.risch_field.proofs.CheckedSteps.{and_then-ok}
 use Rattle.risch_element_theory.specs.WholeTower.{IsElement, IsPolynomial, meaning, polynomial, value_of, Within, AllWithin}
 use Rattle.risch_element_theory.proofs.ElementLaws.{quotient-is_element, quotient-stands, zero-told}
 use Rattle.risch_element_theory.proofs.ElementWithin.{one-element-within, quotient-element-within}
 use Rattle.risch_element_theory.proofs.ElementsTranscendence as Transcendence
 use Rattle.risch_element_theory.proofs.PartsLaws as Parts
-use Rattle.risch_split.specs.Splitting.{one, of_polynomial}
-use Rattle.risch_split.proofs.LevelPolynomials.{at, at-polynomial}
-use Rattle.risch_split.proofs.MonicPolynomials.{one-is_polynomial, one-stands}
+use Rattle.risch_monomial.specs.LevelElements.{one, of_polynomial, ratio}
+use Rattle.risch_monomial.proofs.LevelPolynomials.{at, at-polynomial}
+use Rattle.risch_monomial.proofs.MonicPolynomials.{one-is_polynomial, one-stands}
 
 -- a list other than [] has items
 pub length-some : (p : List Element) → ¬ (p ≡ []) → 0 < length p
@@ -76,3 +78,11 @@ quotient-of_values level p q a b e low k w some va vb is =
       within = quotient-element-within (level + 1) a b e va.within vb.within is;
       product = ap (mean.mul (meaning e)) (sym vb.value) ∙ quotient-stands a b e va.is_element vb.is_element nonzero is ∙ va.value;
     }
+
+-- the rule of the quotient
+pub ratio-stands : (level : ℕ) (p q : List Element) (e : Element) → level ≤ 4 → IsPolynomial p → AllWithin level p → IsPolynomial q → AllWithin level q → ¬ (q ≡ []) → ratio level p q ≡ Ok e → IsRatioOf level p q e
+unfolding ratio
+ratio-stands level p q e low kp wp kq wq some is =
+    let top = and_then-ok (of_polynomial level p) (λ top. and_then (of_polynomial level q) (λ bottom. element.quotient top bottom)) e is in
+    let bottom = and_then-ok (of_polynomial level q) (λ bottom. element.quotient top.value bottom) e top.next in
+    quotient-of_values level p q top.value bottom.value e low kq wq some (of_polynomial-stands level p top.value low kp wp top.is) (of_polynomial-stands level q bottom.value low kq wq bottom.is) bottom.next

@@ -31,9 +31,9 @@ use Rattle.risch_element_theory.proofs.GcdRule as GcdRule
 use Rattle.risch_element_theory.proofs.Levels.{level_means}
 use Rattle.risch_element_theory.proofs.PartsLaws as Parts
 use Rattle.risch_element_theory.proofs.PartsMeaning.{level_below_is}
-use Rattle.risch_split.specs.Canonical.{numerator_at, denominator_at}
-use Rattle.risch_split.proofs.LevelPolynomials.{at, at-polynomial, Over, Over-mul, Over-polynomial, same-of_values}
-use Rattle.risch_split.proofs.MonicPolynomials.{size-is}
+use Rattle.risch_monomial.specs.LevelElements.{numerator_at, denominator_at}
+use Rattle.risch_monomial.proofs.LevelPolynomials.{at, at-polynomial, Over, Over-mul, Over-polynomial, same-of_values}
+use Rattle.risch_monomial.proofs.MonicPolynomials.{size-is}
 
 abbrev R : CommRing (Polynomial elements)
 R = polynomials elements

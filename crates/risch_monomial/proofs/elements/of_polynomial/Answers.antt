@@ -2,9 +2,9 @@ use Rattle.std.proofs.Common.{◌≡◌, false, arith}
 use Rattle.risch_element_theory.proofs.ElementWithin.{one-element-within}
 use Rattle.risch_level.specs.Levels.{Element, element}
 use Rattle.risch_run.proofs.RuledSteps.{agreed}
-use Rattle.risch_split.specs.Splitting.{of_polynomial}
-use Rattle.risch_split.proofs.LevelElements.{not-nil, of_polynomial-stands, value-some}
-use Rattle.risch_split.proofs.special.of_polynomial.Goals as goal
+use Rattle.risch_monomial.specs.LevelElements.{of_polynomial}
+use Rattle.risch_monomial.proofs.LevelElements.{not-nil, of_polynomial-stands, value-some}
+use Rattle.risch_monomial.proofs.elements.of_polynomial.Goals as goal
 
 pub quotient-requires-clause-some : goal.quotient-requires-clause-some
 quotient-requires-clause-some c = rw c.in_ok-one.ensures (omega arith)

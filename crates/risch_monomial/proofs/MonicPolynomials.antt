@@ -21,7 +21,7 @@ use Rattle.risch_element_theory.proofs.ElementPolynomials.{element_interprets}
 use Rattle.risch_element_theory.proofs.GcdRule as GcdRule
 use Rattle.risch_element_theory.proofs.PolynomialRules as Rules
 use Rattle.risch_element_theory.proofs.Levels.{level_tells_one}
-use Rattle.risch_split.specs.Splitting.{one}
+use Rattle.risch_monomial.specs.LevelElements.{one}
 
 -- no sum of ones is 0
 pub elements_characteristic_zero : HasCharacteristicZero elements.ring

@@ -41,8 +41,8 @@ use Rattle.risch_tower.specs.declared.level.Level.{Level}
 use Rattle.risch_tower.specs.Tower.{rate_at}
 use Rattle.risch_tower.specs.TowerMeaning.{monomials}
 use Rattle.risch_tower.proofs.TowerLevels.{length-monomials}
-use Rattle.risch_split.specs.LevelDerivation.{derivative_of_variable, level_derivation}
-use Rattle.risch_split.specs.SplittingSteps.{IsLevelOf}
+use Rattle.risch_monomial.specs.LevelDerivation.{derivative_of_variable, level_derivation}
+use Rattle.risch_monomial.specs.LevelDerivation.{IsLevelOf}
 
 abbrev R : CommRing (Polynomial elements)
 R = polynomials elements

@@ -1,6 +1,6 @@
 use Rattle.std.proofs.Common.{arith}
 use Rattle.risch_element_theory.proofs.ElementDerivation.{element-lies}
-use Rattle.risch_split.proofs.level.level_of.Goals as goal
+use Rattle.risch_monomial.proofs.level.level_of.Goals as goal
 
 pub returns : goal.returns
 returns c = record {
