@@ -18,12 +18,7 @@ pub type ZPoly = PolyList;
 pub type ZPolyList = Items<ZPoly>;
 
 /// lc(b)·r - c·t^e·b, where c is the coefficient of r at e + deg b; what stands there becomes 0 unformed.
-fn pseudo_step(
-    alloc: Global,
-    by: &[Inner],
-    rest: &[Inner],
-    exponent: usize,
-) -> Result<Member, Fail>
+fn pseudo_step(alloc: Global, by: &[Inner], rest: &[Inner], exponent: usize) -> Result<Member, Fail>
     requires some { 0 < length by.now }
     requires small { exponent + length by.now ≤ usize.MAX }
     ensures { Agrees result (spec.pseudo_step by.now rest.now exponent) }
@@ -52,7 +47,11 @@ fn pseudo_remainder(alloc: Global, of: &[Inner], by: &[Inner]) -> Result<Member,
 }
 
 /// The members with the two that are formed last.
-fn finished(members: Items<Member>, above: Member, last: Member) -> Result<Items<Member>, AllocError>
+fn finished(
+    members: Items<Member>,
+    above: Member,
+    last: Member,
+) -> Result<Items<Member>, AllocError>
     ensures { IfOk result (λ it. it ≡ members ++ above ∷ last ∷ []) }
 {
     let mut members = members;
