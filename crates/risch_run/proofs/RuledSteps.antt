@@ -1,7 +1,7 @@
 -- Steps of a rule that may stop: what ends a value ends the rule, and a value goes on. The answer with the result of a rule is the rule's.
 use Rattle.std.specs.Prelude.{IfOk}
 use Rattle.std.proofs.Common.{◌≡◌, Result, Ok, Err, refl}
-use Rattle.risch_field.specs.Checked.{Checked, Agrees, IsStopOf}
+use Rattle.risch_field.specs.Checked.{Checked, IsStopOf}
 use Rattle.risch_field.specs.declared.Fail.{Fail}
 use Rattle.risch_field.specs.declared.Fail.TheVariants.{Overflow, Size, Memory}
 use Rattle.risch_elem.specs.declared.units.Run.{Run}
@@ -9,12 +9,6 @@ use Rattle.risch_level.specs.Levels.{Element}
 use Rattle.risch_run.specs.declared.Ended.{Ended}
 use Rattle.risch_run.specs.declared.Ended.TheVariants as ended
 use Rattle.risch_run.specs.Ruled.{Ruled, formed, and_ruled, ended_by, run_of, IsRun, IsResult, IfDone, IfNotSound, IfEndNotSound, IfErrNotSound}
-
--- ---- values
--- what holds of each value of a rule holds of the value of a call that agrees with it
-pub agreed : {A : Type 0} (P : A → Type 0) (result : Result A Fail) (rule : Checked A) → Agrees result rule → ((a : A) → rule ≡ Ok a → P a) → IfOk result P
-agreed P (Ok a) rule h all = all a h
-agreed P (Err stop) rule h all = tt
 
 -- ---- a value is formed, and then a rule goes on
 pub stop_ends : {A B : Type 0} (end : Ended) (stop : Fail) (rule : Checked A) (next : A → Ruled B) →
