@@ -21,6 +21,15 @@ pub value_goes_on : {A B : Type 0} (result : Result B Ended) (rule : Checked A) 
     rule ≡ Ok a → IsResult result (next a) → IsResult result (and_ruled (formed rule) next)
 value_goes_on result rule next a e h = rw e h
 
+-- ---- a rule that forms values alone
+pub formed_stops : {A : Type 0} (end : Ended) (stop : Fail) (rule : Checked A) → end ≡ ended_by stop → IsStopOf stop rule → IsResult {A = A} (Err end) (formed rule)
+formed_stops end (Overflow op) rule e h = rw (e, h) refl
+formed_stops end Size rule e h = rw (e, h) refl
+formed_stops end Memory rule e h = rw e tt
+
+pub formed_gives : {A : Type 0} (a : A) (rule : Checked A) → rule ≡ Ok a → IsResult (Ok a) (formed rule)
+formed_gives a rule h = rw h refl
+
 -- a stop of a value is not NotSound
 pub stop_is_sound : (end : Ended) (stop : Fail) (P : Element → Type 0) → end ≡ ended_by stop → IfEndNotSound end P
 stop_is_sound end (Overflow op) P e = rw e tt
@@ -64,6 +73,6 @@ result_is_rule run (Err ended.Left) rule e h = rw e at h
 result_is_rule run (Err ended.Memory) rule e h = tt
 
 -- ---- together
-pub ruleset steps = (stop_ends, value_goes_on, stop_is_sound, end_passes, result_passes)
+pub ruleset steps = (stop_ends, value_goes_on, formed_stops, formed_gives, stop_is_sound, end_passes, result_passes)
 
 pub ruleset answers = (answer_is_run, answer_if_done, answer_if_not_sound)
