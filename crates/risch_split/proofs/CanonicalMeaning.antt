@@ -40,28 +40,23 @@ use Rattle.risch_tower.specs.Tower.{rate_at}
 use Rattle.risch_tower.specs.TowerMeaning.{monomials}
 use Rattle.risch_split.specs.declared.splitting.Split.{Split}
 use Rattle.risch_split.specs.declared.canonical_parts.Canonical.{Canonical}
-use Rattle.risch_split.specs.Splitting.{of_polynomial}
-use Rattle.risch_split.specs.Canonical.{numerator_at, denominator_at, ratio, reduced_part, without_special, without_normal, parts_of, parts_by}
-use Rattle.risch_split.specs.LevelDerivation.{level_derivation}
-use Rattle.risch_split.specs.SplittingMeaning.{IsSpecialAt, IsSplitting, AreCanonicalParts}
+use Rattle.risch_monomial.specs.LevelElements.{of_polynomial}
+use Rattle.risch_monomial.specs.LevelElements.{numerator_at, denominator_at, ratio}
+use Rattle.risch_split.specs.Canonical.{reduced_part, without_special, without_normal, parts_of, parts_by}
+use Rattle.risch_monomial.specs.LevelDerivation.{level_derivation}
+use Rattle.risch_monomial.specs.NormalPolynomials.{IsSpecialAt}
+use Rattle.risch_split.specs.SplittingMeaning.{IsSplitting, AreCanonicalParts}
 use Rattle.risch_split.proofs.CanonicalSums.{sum-of_parts, product-of_sum, smaller-of_solution}
-use Rattle.risch_split.proofs.LevelElements.{IsValueOf, of_polynomial-stands, IsRatioOf, quotient-of_values}
-use Rattle.risch_split.proofs.LevelPolynomials.{at, at-polynomial, Over, Over-add, Over-mul, Over-constant, Over-polynomial}
-use Rattle.risch_split.proofs.LowestTerms.{denominator-monic, parts-product, lowest-terms, lowest-proper}
-use Rattle.risch_split.proofs.MonicPolynomials as Monic
+use Rattle.risch_monomial.proofs.LevelElements.{IsValueOf, of_polynomial-stands, IsRatioOf, quotient-of_values, ratio-stands}
+use Rattle.risch_monomial.proofs.LevelPolynomials.{at, at-polynomial, Over, Over-add, Over-mul, Over-constant, Over-polynomial}
+use Rattle.risch_monomial.proofs.LowestTerms.{denominator-monic, parts-product, lowest-terms, lowest-proper}
+use Rattle.risch_monomial.proofs.MonicPolynomials as Monic
 use Rattle.risch_split.proofs.PowersOfVariable as Powers
 
 abbrev R : CommRing (Polynomial elements)
 R = polynomials elements
 
 -- ---- the elements that are formed
-pub ratio-stands : (level : ℕ) (p q : List Element) (e : Element) → level ≤ 4 → IsPolynomial p → AllWithin level p → IsPolynomial q → AllWithin level q → ¬ (q ≡ []) → ratio level p q ≡ Ok e → IsRatioOf level p q e
-unfolding ratio
-ratio-stands level p q e low kp wp kq wq some is =
-    let top = and_then-ok (of_polynomial level p) (λ top. and_then (of_polynomial level q) (λ bottom. element.quotient top bottom)) e is in
-    let bottom = and_then-ok (of_polynomial level q) (λ bottom. element.quotient top.value bottom) e top.next in
-    quotient-of_values level p q top.value bottom.value e low kq wq some (of_polynomial-stands level p top.value low kp wp top.is) (of_polynomial-stands level q bottom.value low kq wq bottom.is) bottom.next
-
 -- an element e of the level with e·q(t) = p(t)
 pub record IsFraction (level : ℕ) (p q : Polynomial elements) (e : Element) : Type 0 where
   pub is_element : IsElement e

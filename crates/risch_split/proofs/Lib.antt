@@ -1,13 +1,10 @@
-pub mod LevelPolynomials
-pub mod MonicPolynomials
 pub mod SpecialFactors
 pub mod PowersOfVariable
-pub mod LevelElements
 pub mod LeastExponents
 pub mod ConstantLaws
 pub mod NewConstants
-pub mod LowestTerms
 pub mod CanonicalSums
 pub mod CanonicalMeaning
 pub mod Orders
 pub mod PartsRules
+pub mod Rules

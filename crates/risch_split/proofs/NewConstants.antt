@@ -45,15 +45,17 @@ use Rattle.risch_element_theory.proofs.PolynomialsWithin.{within-closed}
 use Rattle.risch_tower.specs.declared.level.Level.{Level}
 use Rattle.risch_tower.specs.Tower.{rate_at}
 use Rattle.risch_tower.specs.TowerMeaning.{monomials}
-use Rattle.risch_split.specs.Splitting.{of_polynomial, without_variable, least_exponent, by_power_of_variable, new_constant}
-use Rattle.risch_split.specs.LevelDerivation.{derivative_of_variable, level_derivation}
-use Rattle.risch_split.specs.SplittingMeaning.{IsSpecialAt, IsNewConstant}
-use Rattle.risch_split.specs.SplittingSteps.{IsLevelOf}
+use Rattle.risch_monomial.specs.LevelElements.{of_polynomial}
+use Rattle.risch_split.specs.Splitting.{without_variable, least_exponent, by_power_of_variable, new_constant}
+use Rattle.risch_monomial.specs.LevelDerivation.{derivative_of_variable, level_derivation}
+use Rattle.risch_monomial.specs.NormalPolynomials.{IsSpecialAt}
+use Rattle.risch_split.specs.SplittingMeaning.{IsNewConstant}
+use Rattle.risch_monomial.specs.LevelDerivation.{IsLevelOf}
 use Rattle.risch_split.proofs.ConstantLaws.{derive-power_exponential, constant-of_ratio}
 use Rattle.risch_split.proofs.LeastExponents.{IsShifted, without_variable-shifted}
-use Rattle.risch_split.proofs.LevelElements.{IsValueOf, of_polynomial-stands, IsRatioOf, quotient-of_values}
-use Rattle.risch_split.proofs.LevelPolynomials.{at, Over, Over-constant, Over-variable, Over-mul, Over-polynomial, same-of_values, derivative, at-derivative}
-use Rattle.risch_split.proofs.MonicPolynomials as Monic
+use Rattle.risch_monomial.proofs.LevelElements.{IsValueOf, of_polynomial-stands, IsRatioOf, quotient-of_values}
+use Rattle.risch_monomial.proofs.LevelPolynomials.{at, Over, Over-constant, Over-variable, Over-mul, Over-polynomial, same-of_values, derivative, at-derivative}
+use Rattle.risch_monomial.proofs.MonicPolynomials as Monic
 use Rattle.risch_split.proofs.PowersOfVariable as Powers
 
 abbrev R : CommRing (Polynomial elements)

@@ -17,9 +17,10 @@ use Rattle.risch_element_theory.proofs.CoefficientProperties as Properties
 use Rattle.risch_element_theory.proofs.PartsLaws as Parts
 use Rattle.risch_element_theory.proofs.PolynomialsWithin.{within-closed}
 use Rattle.risch_split.specs.Splitting.{least_exponent}
-use Rattle.risch_split.specs.Canonical.{numerator_at, denominator_at, order_at}
+use Rattle.risch_monomial.specs.LevelElements.{numerator_at, denominator_at}
+use Rattle.risch_split.specs.Canonical.{order_at}
 use Rattle.risch_split.proofs.LeastExponents.{dropped-product}
-use Rattle.risch_split.proofs.LowestTerms.{parts-coprime}
+use Rattle.risch_monomial.proofs.LowestTerms.{parts-coprime}
 use Rattle.risch_split.proofs.PowersOfVariable as Powers
 
 abbrev R : CommRing (Polynomial elements)

@@ -8,7 +8,8 @@ use Rattle.risch_polynomial.specs.Poly as poly
 use Rattle.risch_level.specs.Levels.{Element, element}
 use Rattle.risch_tower.specs.declared.level.Level.{Level}
 use Rattle.risch_split.specs.declared.splitting.Split.{Split}
-use Rattle.risch_split.specs.Splitting.{one, special_factor, with_factor, parts_with, parts_in}
+use Rattle.risch_monomial.specs.LevelElements.{one}
+use Rattle.risch_split.specs.Splitting.{special_factor, with_factor, parts_with, parts_in}
 
 abbrev formed : List Element → List Element → Checked Split
 formed n s = Ok (record { normal = n; special = s })

@@ -1,6 +1,6 @@
 -- The laws that the calls need, together.
 use Rattle.risch_split.proofs.LeastExponents.{least-small, drop-weight, drop-length, trimmed-length}
-use Rattle.risch_split.proofs.MonicPolynomials.{monic-length}
+use Rattle.risch_monomial.proofs.MonicPolynomials.{monic-length}
 
 pub ruleset lengths = monic-length
 

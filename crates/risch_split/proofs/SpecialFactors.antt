@@ -27,11 +27,12 @@ use Rattle.risch_tower.specs.declared.level.Level.{Level}
 use Rattle.risch_tower.specs.Tower.{rate_at}
 use Rattle.risch_tower.specs.TowerMeaning.{monomials}
 use Rattle.risch_split.specs.declared.splitting.Split.{Split}
-use Rattle.risch_split.specs.Splitting.{one}
-use Rattle.risch_split.specs.LevelDerivation.{level_derivation}
-use Rattle.risch_split.specs.SplittingMeaning.{HasNormalDivisors, IsSpecialAt, IsSplitting}
+use Rattle.risch_monomial.specs.LevelElements.{one}
+use Rattle.risch_monomial.specs.LevelDerivation.{level_derivation}
+use Rattle.risch_monomial.specs.NormalPolynomials.{HasNormalDivisors, IsSpecialAt}
+use Rattle.risch_split.specs.SplittingMeaning.{IsSplitting}
 use Rattle.risch_split.specs.SplittingSteps.{IsStep, AreParts}
-use Rattle.risch_split.proofs.MonicPolynomials.{elements_characteristic_zero, exact_quotient, one-stands, size-is, is_one-stands, not_one-length}
+use Rattle.risch_monomial.proofs.MonicPolynomials.{elements_characteristic_zero, exact_quotient, one-stands, size-is, is_one-stands, not_one-length}
 
 abbrev R : CommRing (Polynomial elements)
 R = polynomials elements

@@ -4,41 +4,27 @@ use Rattle.risch_field.specs.Checked.{Checked, and_then}
 use Rattle.risch_polynomial.specs.Poly as poly
 use Rattle.risch_polynomial.specs.Modular as modular
 use Rattle.risch_level.specs.Levels.{Element, element}
-use Rattle.risch_level.specs.Parts.{levels, denominator}
 use Rattle.risch_tower.specs.declared.level.Level.{Level}
+use Rattle.risch_monomial.specs.LevelElements.{of_polynomial, ratio, numerator_at, denominator_at}
 use Rattle.risch_run.specs.Ruled.{Ruled, formed, and_ruled}
 use Rattle.risch_split.specs.declared.splitting.Split.{Split}
 use Rattle.risch_split.specs.declared.canonical_parts.Canonical.{Canonical}
-use Rattle.risch_split.specs.Splitting.{of_polynomial, least_exponent, splitting}
-
--- numerator and denominator at the level
-abbrev pub numerator_at : ℕ → Element → List Element
-numerator_at level f = (levels 5).numerator (4 - level) f
-
-abbrev pub denominator_at : ℕ → Element → List Element
-denominator_at level f = denominator 5 (4 - level) f
+use Rattle.risch_split.specs.Splitting.{least_exponent, splitting}
 
 -- ---- canonical parts
 module _ (level : ℕ) where
-  -- p/q as the quotient of the two elements
-  unfoldable pub ratio : List Element → List Element → Checked Element
-  ratio p q =
-      and_then (of_polynomial level p) (λ top.
-      and_then (of_polynomial level q) (λ bottom.
-      element.quotient top bottom))
-
   -- q + r/s
   unfoldable pub reduced_part : List Element → List Element → List Element → Checked Element
   reduced_part q r s =
       and_then (of_polynomial level q) (λ polynomial.
-      and_then (ratio r s) (λ proper.
+      and_then (ratio level r s) (λ proper.
       element.sum polynomial proper))
 
   -- the parts q and r/n of q + r/n
   unfoldable pub without_special : List Element → List Element → List Element → Checked Canonical
   without_special q r n =
       and_then (of_polynomial level q) (λ reduced.
-      and_then (ratio r n) (λ normal.
+      and_then (ratio level r n) (λ normal.
       Ok (record { reduced = reduced; normal = normal })))
 
   -- the parts q + r/s and 0
@@ -50,7 +36,7 @@ module _ (level : ℕ) where
   parts_of q split None = Ok (record { reduced = element.zero; normal = element.zero })
   parts_of q split (Some solution) =
       and_then (reduced_part q solution.0 split.special) (λ reduced.
-      and_then (ratio solution.1 split.normal) (λ normal.
+      and_then (ratio level solution.1 split.normal) (λ normal.
       Ok (record { reduced = reduced; normal = normal })))
 
   -- the parts of q + r/(n·s)

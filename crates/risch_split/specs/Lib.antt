@@ -1,5 +1,4 @@
 pub mod Splitting
 pub mod Canonical
-pub mod LevelDerivation
 pub mod SplittingMeaning
 pub mod SplittingSteps

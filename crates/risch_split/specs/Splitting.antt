@@ -3,23 +3,15 @@ use Rattle.std.specs.Prelude.{ℕ, zero, suc, ◌-◌, if◌then◌else◌, Opti
 use Rattle.risch_field.specs.Checked.{Checked, and_then, map_ok}
 use Rattle.risch_polynomial.specs.Poly as poly
 use Rattle.risch_level.specs.Levels.{Element, element}
-use Rattle.risch_level.specs.Parts.{levels}
 use Rattle.risch_derivation.specs.Derivation.{derive_polynomial}
 use Rattle.risch_derivation.specs.declared.rate.Kind.{Kind}
 use Rattle.risch_derivation.specs.declared.rate.Kind.TheVariants.{Primitive, Exponential}
 use Rattle.risch_elem.specs.declared.units.Stop.TheVariants.{NotSound}
 use Rattle.risch_tower.specs.declared.level.Level.{Level}
 use Rattle.risch_tower.specs.Tower.{derivative, rate_at}
+use Rattle.risch_monomial.specs.LevelElements.{one, of_polynomial}
 use Rattle.risch_run.specs.Ruled.{Ruled, formed, and_ruled}
 use Rattle.risch_split.specs.declared.splitting.Split.{Split}
-
--- the polynomial 1
-abbrev pub one : List Element
-one = element.one ∷ []
-
--- the polynomial p as an element of the level
-unfoldable pub of_polynomial : ℕ → List Element → Checked Element
-of_polynomial level p = (levels 5).quotient (4 - level) p one
 
 -- ---- the parts
 module _ (tower : List Level) (level : ℕ) where

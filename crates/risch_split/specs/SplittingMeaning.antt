@@ -1,17 +1,12 @@
 -- What the splitting factorization and the canonical parts are. Polynomials are those in the variable t of the level over the field K of all elements, with the derivation D of the tower.
 use Rattle.std.specs.Prelude.{◌≡◌, ℕ, ◌+◌, ◌<◌, List, length}
-use Rattle.risch_ring.specs.CommRing.{Derivation, power}
-use Rattle.risch_univariate.specs.Polynomial.{Polynomial, variable}
-use Rattle.risch_univariate.specs.PolynomialRing.{polynomials}
 use Rattle.risch_univariate.specs.Degree.{IsMonic}
-use Rattle.risch_univariate.specs.Division.{Divides, IsCoprime, IsSquareFree}
-use Rattle.risch_univariate.specs.SplittingFactorization.{IsNormal, IsSpecial}
+use Rattle.risch_univariate.specs.Division.{Divides, IsCoprime}
+use Rattle.risch_univariate.specs.SplittingFactorization.{IsSpecial}
 use Rattle.risch_mean.specs.Element.{◌+ₑ◌}
 use Rattle.risch_mean.specs.ElementField.{elements}
 use Rattle.risch_mean.specs.Constants as constants
 use Rattle.risch_level.specs.Levels.{Element}
-use Rattle.risch_derivation.specs.declared.rate.Kind.{Kind}
-use Rattle.risch_derivation.specs.declared.rate.Kind.TheVariants.{Primitive, Exponential}
 use Rattle.risch_element_theory.specs.WholeTower.{meaning, polynomial, Within}
 use Rattle.risch_element_theory.specs.ElementPolynomials.{◌*ₚ◌}
 use Rattle.risch_tower.specs.declared.level.Level.{Level}
@@ -19,18 +14,9 @@ use Rattle.risch_tower.specs.Tower.{rate_at}
 use Rattle.risch_tower.specs.TowerMeaning.{monomials}
 use Rattle.risch_split.specs.declared.splitting.Split.{Split}
 use Rattle.risch_split.specs.declared.canonical_parts.Canonical.{Canonical}
-use Rattle.risch_split.specs.Canonical.{numerator_at, denominator_at}
-use Rattle.risch_split.specs.LevelDerivation.{level_derivation}
-
--- ---- normal and special polynomials
--- each square-free divisor q of p is normal: q and Dq are coprime
-abbrev pub HasNormalDivisors : Derivation (polynomials elements) → Polynomial elements → Type 0
-HasNormalDivisors D p = (q : Polynomial elements) → IsSquareFree elements q → Divides elements q p → IsNormal elements D q
-
--- what the monic special polynomials of a sound tower are: 1 where Dt = η, a power of t where Dt = η·t
-abbrev pub IsSpecialAt : Kind → Polynomial elements → Type 0
-IsSpecialAt Primitive s = s ≡ (polynomials elements).one
-IsSpecialAt Exponential s = (e : ℕ) × (s ≡ power (polynomials elements) (variable elements) e)
+use Rattle.risch_monomial.specs.LevelDerivation.{level_derivation}
+use Rattle.risch_monomial.specs.LevelElements.{numerator_at, denominator_at}
+use Rattle.risch_monomial.specs.NormalPolynomials.{HasNormalDivisors, IsSpecialAt}
 
 -- ---- the splitting factorization
 -- p = n·s for the normal part n and the special part s, in a tower whose special polynomials are those of a sound one

@@ -10,11 +10,10 @@ ghost use Rattle.risch_run.specs.Ruled.{IsResult, IfErrNotSound};
 ghost use Rattle.risch_split.specs.Canonical as spec;
 ghost use Rattle.risch_split.specs.SplittingMeaning.{IsNewConstant, AreCanonicalParts, IsSplitting};
 
-use crate::level::level_of;
-use crate::special::of_polynomial;
 use crate::splitting::{Split, splitting};
 use risch_elem::{Elem, Fail, Poly};
 use risch_field::Arith;
+use risch_monomial::{level_of, of_polynomial, ratio};
 use risch_run::Ended;
 use risch_tower::Tower;
 use std::alloc::{AllocError, Global};
@@ -38,21 +37,6 @@ impl Canonical {
             normal: self.normal.copy(alloc)?,
         })
     }
-}
-
-/// p/q as the quotient of the two elements, for q other than 0.
-#[tactic(auto, using(risch_field::proofs::CheckedSteps::stop_passes, risch_field::proofs::CheckedSteps::value_passes), unfolding(crate::specs::Canonical::ratio))]
-fn ratio(alloc: Global, level: u8, top: &Poly, bottom: &Poly) -> Result<Elem, Fail>
-    requires level { level < 5 }
-    requires some { 0 < length bottom.now }
-    requires top_within { AllWithin level top.now }
-    requires bottom_within { AllWithin level bottom.now }
-    ensures rule { Agrees result (spec.ratio level top.now bottom.now) }
-    ensures within { IfOk result (λ it. Within (level + 1) it) }
-{
-    let top = of_polynomial(alloc, level, top)?;
-    let bottom = of_polynomial(alloc, level, bottom)?;
-    top.div(alloc, &bottom)
 }
 
 /// q + r/s, for s other than 0.

@@ -11,7 +11,6 @@
 
 mod calls;
 mod canonical_parts;
-mod level;
 mod order;
 mod special;
 mod splitting;

@@ -11,22 +11,15 @@ ghost use Rattle.risch_element_theory.specs.WholeTower.{polynomial, Within, AllW
 ghost use Rattle.risch_tower.specs.Tower.{rate_at};
 ghost use Rattle.risch_tower.specs.TowerMeaning.{monomials};
 ghost use Rattle.risch_split.specs.Splitting as spec;
-ghost use Rattle.risch_split.specs.LevelDerivation.{level_derivation};
-ghost use Rattle.risch_split.specs.SplittingMeaning.{IsSpecialAt, IsNewConstant};
+ghost use Rattle.risch_monomial.specs.LevelDerivation.{level_derivation};
+ghost use Rattle.risch_monomial.specs.NormalPolynomials.{IsSpecialAt};
+ghost use Rattle.risch_split.specs.SplittingMeaning.{IsNewConstant};
 
-use crate::level::level_of;
 use risch_elem::{Elem, Fail, Items, Poly};
 use risch_field::Arith;
+use risch_monomial::{level_of, of_polynomial};
 use risch_tower::{Kind, Tower};
 use std::alloc::{AllocError, Global};
-
-/// The polynomial 1.
-pub(crate) fn one(alloc: Global) -> Result<Poly, AllocError>
-    ensures { IfOk result (λ it. it ≡ spec.one) }
-{
-    let inner = risch_polynomial::Poly::one(alloc)?;
-    Ok(Poly::kept(inner))
-}
 
 /// t^e.
 fn power_of_variable(alloc: Global, exponent: u16) -> Result<Poly, Fail>
@@ -36,19 +29,6 @@ fn power_of_variable(alloc: Global, exponent: u16) -> Result<Poly, Fail>
 {
     let inner = risch_polynomial::Poly::monomial(alloc, Elem::one(), exponent)?;
     Ok(Poly::kept(inner))
-}
-
-/// The polynomial p as an element of the level.
-pub(crate) fn of_polynomial(alloc: Global, level: u8, poly: &Poly) -> Result<Elem, Fail>
-    requires level { level < 5 }
-    requires within { AllWithin level poly.now }
-    ensures rule { Agrees result (spec.of_polynomial level poly.now) }
-    ensures some { 0 < length poly.now → IfOk result (λ it. IsFalse (element.is_zero it)) }
-    ensures within { IfOk result (λ it. Within (level + 1) it) }
-{
-    let _inner = poly.inner();
-    let one = one(alloc)?;
-    Elem::quotient(alloc, level, poly, &one)
 }
 
 /// The least exponent with a coefficient other than 0.

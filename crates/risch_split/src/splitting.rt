@@ -10,9 +10,9 @@ ghost use Rattle.risch_split.specs.Splitting as spec;
 ghost use Rattle.risch_split.specs.SplittingMeaning.{IsSplitting, IsNewConstant};
 ghost use Rattle.risch_split.specs.SplittingSteps.{IsStep, AreParts};
 
-use crate::level::level_of;
-use crate::special::{new_constant, one};
+use crate::special::new_constant;
 use risch_elem::{Fail, Poly, Stop};
+use risch_monomial::{level_of, one};
 use risch_run::Ended;
 use risch_tower::Tower;
 use std::alloc::{AllocError, Global};
@@ -39,7 +39,7 @@ impl Split {
 }
 
 /// S = gcd(d, Dd) quo gcd(d, ∂d), the product of the special irreducible factors of d, each once.
-#[tactic(auto, using(risch_field::proofs::CheckedSteps::stop_passes, risch_field::proofs::CheckedSteps::value_passes), unfolding(crate::specs::Splitting::special_factor))]
+#[tactic(auto, using(risch_field::proofs::CheckedSteps::stop_passes, risch_field::proofs::CheckedSteps::value_passes), unfolding(crate::specs::Splitting::special_factor, risch_polynomial::specs::Poly::quo))]
 fn special_factor(alloc: Global, tower: &Tower, level: u8, poly: &Poly) -> Result<Poly, Fail>
     requires level { level ≤ length tower.now }
     requires within { AllWithin level poly.now }

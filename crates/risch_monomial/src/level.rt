@@ -1,12 +1,12 @@
 //! What is known of a level of a tower.
 
 ghost use Rattle.std.specs.Prelude.{◌≤◌, length};
-ghost use Rattle.risch_split.specs.SplittingSteps.{IsLevelOf};
+ghost use Rattle.risch_monomial.specs.LevelDerivation.{IsLevelOf};
 
 use risch_tower::Tower;
 
 /// The level has a variable, with the rate of the level.
-pub(crate) fn level_of(tower: &Tower, level: u8)
+pub fn level_of(tower: &Tower, level: u8)
     requires { level ≤ length tower.now }
     ensures { IsLevelOf tower.now level }
 {

@@ -24,16 +24,15 @@ use Rattle.risch_level.specs.declared.over.Over.TheVariants.{Below, Quotient}
 use Rattle.risch_element_theory.specs.LevelMeaning.{valid_at, meaning_at}
 use Rattle.risch_element_theory.specs.PolynomialMeaning.{polynomial_of}
 use Rattle.risch_element_theory.specs.WholeTower.{IsElement, IsPolynomial, meaning, polynomial, value_of, Within}
-use Rattle.risch_element_theory.proofs.DivisionRule as DivisionRule
 use Rattle.risch_element_theory.proofs.ElementPolynomials.{element_interprets}
 use Rattle.risch_element_theory.proofs.ElementsTranscendence as Transcendence
 use Rattle.risch_element_theory.proofs.GcdRule as GcdRule
 use Rattle.risch_element_theory.proofs.Levels.{level_means}
 use Rattle.risch_element_theory.proofs.PartsLaws as Parts
 use Rattle.risch_element_theory.proofs.PartsMeaning.{level_below_is}
-use Rattle.risch_split.specs.Canonical.{numerator_at, denominator_at}
-use Rattle.risch_split.proofs.LevelPolynomials.{at, at-polynomial, Over, Over-mul, Over-polynomial, same-of_values}
-use Rattle.risch_split.proofs.MonicPolynomials.{size-is}
+use Rattle.risch_monomial.specs.LevelElements.{numerator_at, denominator_at}
+use Rattle.risch_monomial.proofs.LevelPolynomials.{at, at-polynomial, Over, Over-mul, Over-polynomial, same-of_values}
+use Rattle.risch_monomial.proofs.MonicPolynomials.{size-is}
 
 abbrev R : CommRing (Polynomial elements)
 R = polynomials elements

@@ -2,20 +2,28 @@
 --     of_polynomial-stands      p as an element stands for p(t)
 --     value-some      p(t) ≠ 0 for p ≠ 0
 --     quotient-of_values      p(t)/q(t)
-use Rattle.std.proofs.Common.{◌≡◌, ℕ, ◌+◌, ◌≤◌, ◌<◌, Bool, true, false, List, [], ◌∷◌, length, Ok, refl, sym, ◌∙◌, ap, arith}
-use Rattle.risch_univariate.specs.PolynomialRing.{polynomials}
+use Rattle.std.specs.Prelude.{IfOk}
+use Rattle.std.proofs.Common.{◌≡◌, ℕ, ◌+◌, ◌≤◌, ◌<◌, Bool, true, false, List, [], ◌∷◌, length, Result, Ok, Err, refl, sym, ◌∙◌, ap, arith}
 use Rattle.risch_mean.specs.Element as mean
 use Rattle.risch_mean.specs.Element.{variable, ◌*ₑ◌}
 use Rattle.risch_mean.specs.ElementField.{elements}
 use Rattle.risch_level.specs.Levels.{Element, element}
+use Rattle.risch_field.specs.Checked.{Checked, Agrees, and_then}
+use Rattle.risch_field.specs.declared.Fail.{Fail}
+use Rattle.risch_field.proofs.CheckedSteps.{and_then-ok}
 use Rattle.risch_element_theory.specs.WholeTower.{IsElement, IsPolynomial, meaning, polynomial, value_of, Within, AllWithin}
 use Rattle.risch_element_theory.proofs.ElementLaws.{quotient-is_element, quotient-stands, zero-told}
 use Rattle.risch_element_theory.proofs.ElementWithin.{one-element-within, quotient-element-within}
 use Rattle.risch_element_theory.proofs.ElementsTranscendence as Transcendence
 use Rattle.risch_element_theory.proofs.PartsLaws as Parts
-use Rattle.risch_split.specs.Splitting.{one, of_polynomial}
-use Rattle.risch_split.proofs.LevelPolynomials.{at, at-polynomial}
-use Rattle.risch_split.proofs.MonicPolynomials.{one-is_polynomial, one-stands}
+use Rattle.risch_monomial.specs.LevelElements.{one, of_polynomial, ratio}
+use Rattle.risch_monomial.proofs.LevelPolynomials.{at, at-polynomial}
+use Rattle.risch_monomial.proofs.MonicPolynomials.{one-is_polynomial, one-stands}
+
+-- what holds of each value of a rule holds of the value of a call that agrees with it
+pub agreed : {A : Type 0} (P : A → Type 0) (result : Result A Fail) (rule : Checked A) → Agrees result rule → ((a : A) → rule ≡ Ok a → P a) → IfOk result P
+agreed P (Ok a) rule h all = all a h
+agreed P (Err stop) rule h all = tt
 
 -- a list other than [] has items
 pub length-some : (p : List Element) → ¬ (p ≡ []) → 0 < length p
@@ -76,3 +84,11 @@ quotient-of_values level p q a b e low k w some va vb is =
       within = quotient-element-within (level + 1) a b e va.within vb.within is;
       product = ap (mean.mul (meaning e)) (sym vb.value) ∙ quotient-stands a b e va.is_element vb.is_element nonzero is ∙ va.value;
     }
+
+-- the rule of the quotient
+pub ratio-stands : (level : ℕ) (p q : List Element) (e : Element) → level ≤ 4 → IsPolynomial p → AllWithin level p → IsPolynomial q → AllWithin level q → ¬ (q ≡ []) → ratio level p q ≡ Ok e → IsRatioOf level p q e
+unfolding ratio
+ratio-stands level p q e low kp wp kq wq some is =
+    let top = and_then-ok (of_polynomial level p) (λ top. and_then (of_polynomial level q) (λ bottom. element.quotient top bottom)) e is in
+    let bottom = and_then-ok (of_polynomial level q) (λ bottom. element.quotient top.value bottom) e top.next in
+    quotient-of_values level p q top.value bottom.value e low kq wq some (of_polynomial-stands level p top.value low kp wp top.is) (of_polynomial-stands level q bottom.value low kq wq bottom.is) bottom.next

@@ -1,0 +1,4 @@
+pub mod MonicPolynomials
+pub mod LevelPolynomials
+pub mod LevelElements
+pub mod LowestTerms

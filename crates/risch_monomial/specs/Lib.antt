@@ -1,0 +1,3 @@
+pub mod LevelDerivation
+pub mod LevelElements
+pub mod NormalPolynomials

@@ -1,5 +1,0 @@
-use Rattle.risch_split.proofs.MonicPolynomials.{one-is_polynomial}
-use Rattle.risch_split.proofs.special.one.Goals as goal
-
-pub kept-requires : goal.kept-requires
-kept-requires c = rw c.in_ok-inner.ensures one-is_polynomial
