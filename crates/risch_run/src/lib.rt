@@ -9,6 +9,10 @@
 ghost use Rattle.std.specs.Prelude.{◌≡◌};
 ghost use Rattle.risch_run.specs.Ruled.{run_of};
 
+mod units;
+
+pub use units::charge;
+
 use risch_elem::{Fail, Run, Stop};
 use std::alloc::AllocError;
 
