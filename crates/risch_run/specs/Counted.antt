@@ -1,5 +1,5 @@
 -- Rules that cost units: how many units a rule costs up to its value or stop, and what a run with a budget answers.
-use Rattle.std.specs.Prelude.{◌≡◌, ℕ, ◌+◌, ◌<◌, ◌⊎◌, Result, Ok, Err}
+use Rattle.std.specs.Prelude.{◌≡◌, ℕ, ◌+◌, ◌<◌, ◌⊎◌, ⊤, Result, Ok, Err}
 use Rattle.risch_elem.specs.declared.units.Stop.{Stop}
 use Rattle.risch_elem.specs.declared.units.Stop.TheVariants.{Budget}
 use Rattle.risch_elem.specs.declared.units.Run.{Run}

@@ -11,10 +11,9 @@ ghost use Rattle.risch_run.specs.Ruled.{run_of};
 
 mod units;
 
-pub use units::charge;
-
 use risch_elem::{Fail, Run, Stop};
 use std::alloc::AllocError;
+pub use units::charge;
 
 /// What ends a run before its value.
 #[derive(Drop)]
