@@ -9,8 +9,10 @@
 //! What it means: `specs/HermiteMeaning.antt` says what the reduction of an element is, over the field of all elements with the derivation of the tower.
 #![tactic(auto)]
 
+mod calls;
 mod partial;
 mod reduction;
 mod step;
 
-pub use reduction::{Hermite, hermite};
+pub use calls::hermite;
+pub use reduction::Hermite;
