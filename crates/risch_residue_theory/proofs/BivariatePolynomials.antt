@@ -16,7 +16,7 @@ use Rattle.risch_fraction_field.specs.Representation.{of_polynomial-zero}
 use Rattle.risch_fraction_field.specs.FractionField.{fractions}
 use Rattle.risch_residue_theory.specs.BivariatePolynomial.{bivariate, coefficient_at, content}
 
-map-get : {A B : Type 0} (f : A → B) (x : A) (y : B) → f x ≡ y → (xs : List A) (i : ℕ) → get_or (map f xs) i y ≡ f (get_or xs i x)
+pub map-get : {A B : Type 0} (f : A → B) (x : A) (y : B) → f x ≡ y → (xs : List A) (i : ℕ) → get_or (map f xs) i y ≡ f (get_or xs i x)
 map-get f x y e [] i = sym e
 map-get f x y e (z ∷ zs) zero = refl
 map-get f x y e (z ∷ zs) (suc i) = map-get f x y e zs i

@@ -21,6 +21,7 @@ pub mod InvertibleArguments
 pub mod InvertibleParts
 pub mod LazardRiobooTrager
 pub mod RuleDerivatives
+pub mod OrderedByPowers
 pub mod RuleArguments
 pub mod LogarithmsOfTraces
 pub mod RuleLogarithms

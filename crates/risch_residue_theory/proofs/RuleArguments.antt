@@ -7,13 +7,11 @@ use Rattle.risch_ring.specs.CommRing.{CommRing, Field, Derivation, sub, power, H
 use Rattle.risch_ring.specs.Lists.{Member}
 use Rattle.risch_ring.proofs.Laws as Laws
 use Rattle.risch_ring.proofs.FieldLaws as FieldLaws
-use Rattle.risch_univariate.specs.Polynomial.{Polynomial, constant, variable, coefficient}
+use Rattle.risch_univariate.specs.Polynomial.{Polynomial, constant}
 use Rattle.risch_univariate.specs.PolynomialRing.{polynomials}
-use Rattle.risch_univariate.specs.PolynomialLaws.{polynomial_ext}
 use Rattle.risch_univariate.specs.Degree.{size, IsMonic}
 use Rattle.risch_univariate.specs.Division.{Divides, IsCoprime}
 use Rattle.risch_univariate.specs.SquareFreeParts.{product_of_powers, AreParts}
-use Rattle.risch_univariate.proofs.Coefficients.{coefficient-zero, coefficient-constant-zero, coefficient-horner-zero, coefficient-horner-suc}
 use Rattle.risch_univariate.proofs.Degree as Degree
 use Rattle.risch_univariate.proofs.Derivation as Derivation
 use Rattle.risch_univariate.proofs.Divides as Divides
@@ -22,11 +20,11 @@ use Rattle.risch_univariate.proofs.Gcd as Gcd
 use Rattle.risch_univariate.proofs.SquareFree as SquareFree
 use Rattle.risch_fraction_field.specs.Fraction.{of_polynomial}
 use Rattle.risch_fraction_field.specs.FractionField.{fractions}
-use Rattle.risch_fraction_field.specs.DifferentialField.{constant_fraction, constant_fraction-apply}
-use Rattle.risch_fraction_field.specs.Representation.{of_polynomial-mul, of_polynomial-add, of_polynomial-zero, of_polynomial-nonzero}
+use Rattle.risch_fraction_field.specs.DifferentialField.{constant_fraction}
+use Rattle.risch_fraction_field.specs.Representation.{of_polynomial-nonzero}
 use Rattle.risch_extension.specs.Extension.{Extension}
 use Rattle.risch_extension.specs.PolynomialMap.{map_polynomial}
-use Rattle.risch_extension.proofs.PolynomialMaps.{map_polynomial-constant, map_polynomial-nonzero, size-map_polynomial}
+use Rattle.risch_extension.proofs.PolynomialMaps.{map_polynomial-nonzero, size-map_polynomial}
 use Rattle.risch_residue_theory.specs.BivariatePolynomial.{lift, bivariate, coefficient_at, by_powers, content, residue_polynomial}
 use Rattle.risch_residue_theory.specs.LogarithmArgument.{IsMonicMember, IsArgument}
 use Rattle.risch_residue_theory.specs.Logarithm.{Logarithm}
@@ -37,37 +35,9 @@ use Rattle.risch_residue_theory.proofs.FractionMap.{fraction_map}
 use Rattle.risch_residue_theory.proofs.GcdAtResidues.{gcd_at, residue_polynomial_at, residue_polynomial-coprime}
 use Rattle.risch_residue_theory.proofs.InvertibleParts.{IsPartOf, leading_coefficient-invertible_part, member_of_part, argument-invertible_part}
 use Rattle.risch_residue_theory.proofs.LazardRiobooTrager.{argument_values, denominator_values}
-use Rattle.risch_residue_theory.proofs.Place.{Some, Horner, horner_of}
+use Rattle.risch_residue_theory.proofs.Place.{Some}
+use Rattle.risch_residue_theory.proofs.OrderedByPowers.{by_powers-constants}
 use Rattle.risch_residue_theory.proofs.PrimitiveParts.{primitive_part, coefficient-primitive_part, bivariate-scaled, multiple_of_primitive, IsMultipleOf, primitive_sequence, HasPrimitivePart, primitive_part_of, content-nonzero, zero_of_content}
-
--- ---- constant coefficients
-
--- Σ d_j·t^j with constant d_j, ordered by powers of z, is d
-pub by_powers-constants : {A : Type 0} (F : Field A) (S : List (Polynomial F)) (d : Polynomial F) → ((j : ℕ) → coefficient_at F S j ≡ constant F (coefficient F d j))
-    → by_powers F S ≡ constant (fractions F) (of_polynomial F d)
-unfolding by_powers
-by_powers-constants F [] d h =
-    sym (ap (constant (fractions F))
-    (ap (of_polynomial F)
-    (polynomial_ext F d (polynomials F).zero (λ j.
-    sym (coefficient-constant-zero F (coefficient F d j)) ∙ ap (λ z. coefficient F z 0) (sym (h j)) ∙ coefficient-zero F 0 ∙ sym (coefficient-zero F j)))
-    ∙ of_polynomial-zero F)
-    ∙ Degree.constant-zero (fractions F))
-by_powers-constants F (c ∷ S) d h =
-    ap₂ T.add
-    (ap (lift F) (h 0 ∙ ap (constant F) (ap (λ z. coefficient F z 0) x.equation ∙ coefficient-horner-zero F x.head x.tail))
-    ∙ map_polynomial-constant F (fractions F) (constant_fraction F) x.head ∙ ap (constant (fractions F)) (constant_fraction-apply F x.head))
-    (ap (T.mul (constant (fractions F) (of_polynomial F (variable F))))
-    (by_powers-constants F S x.tail (λ j. h (suc j) ∙ ap (constant F) (ap (λ z. coefficient F z (suc j)) x.equation ∙ coefficient-horner-suc F x.head x.tail j)))
-    ∙ sym (Degree.constant-mul (fractions F) (of_polynomial F (variable F)) (of_polynomial F x.tail)) ∙ ap (constant (fractions F)) (sym (of_polynomial-mul F (variable F) x.tail)))
-    ∙ sym (Degree.constant-add (fractions F) _ _)
-    ∙ ap (constant (fractions F)) (sym (of_polynomial-add F (constant F x.head) _) ∙ ap (of_polynomial F) (sym x.equation))
-  where
-    T : CommRing (Polynomial (fractions F))
-    T = polynomials (fractions F)
-
-    x : Horner F d
-    x = horner_of F d
 
 -- ---- degrees of the parts
 
