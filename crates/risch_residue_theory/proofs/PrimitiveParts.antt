@@ -174,6 +174,11 @@ module _ {A : Type 0} (F : Field A) where
       ∙ ap ((fractions F).mul (of_polynomial F (R.neg (variable F)))) (Degree.below_size (fractions F) (lift F e) i (let s = size-map_polynomial F (fractions F) (constant_fraction F) e in omega (arith, s, k, m)))
       ∙ Laws.mul-zero (fractions F).ring _))
 
+  -- where no member after b is asked for: b alone is a sequence down to the degree deg d
+  pub rule_sequence-empty : (d a e : Polynomial F) → size F a ≤ size F d → size F e ≤ size F d → (b : List (Polynomial F)) → bivariate F b ≡ residue_polynomial F a e
+      → IsRuleSequence F (size F d) d a e b []
+  rule_sequence-empty d a e l k b h = record { first = h; is_sequence = inl (size-residue_polynomial a e (size F d) l k); is_primitive = tt }
+
   module _ (n : ℕ) (d a e : Polynomial F) (small_a : size F a ≤ size F d) (small_e : size F e ≤ size F d) (b : List (Polynomial F)) (ms : List (List (Polynomial F)))
       (sequence : IsRuleSequence F n d a e b ms) where
     -- the primitive part of b, and ms

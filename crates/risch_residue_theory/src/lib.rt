@@ -17,7 +17,7 @@
 //! - `rule_sequence-is_primitive`, `rule_argument-is_argument`, `rule_argument-invertible`, `rule_member_exists`, `rule_leading_coefficient-invertible` (proofs/RuleArguments): the primitive part of b and the members after it are a `PrimitiveSequence`;
 //!   each S is an argument for it and is invertible modulo R, d too; for each R_i ≠ 1, i ≠ deg d, there is a member of degree i, and the leading coefficient of its primitive part is invertible modulo R_i;
 //! - `derivative-is` (proofs/RuleDerivatives), `trace-any_inverse` (proofs/TracesModulo): the derivative of one logarithm, and that it does not depend on the inverse;
-//! - for the step from lists of coefficients: `residue_polynomial_of_coefficients` (proofs/PrimitiveParts), `next_of_pseudo_remainder`, `divides_of_pseudo_remainder` (proofs/PseudoRemainder), `coefficient-by_powers`, `size-by_powers-le`,
+//! - for the step from lists of coefficients: `residue_polynomial_of_coefficients`, `rule_sequence-empty` (proofs/PrimitiveParts), `next_of_pseudo_remainder`, `divides_of_pseudo_remainder` (proofs/PseudoRemainder), `coefficient-by_powers`, `size-by_powers-le`,
 //!   `by_powers-constants`, `at_point-constants` (proofs/OrderedByPowers), `newton_polynomial-is_residue_polynomial` (proofs/RuleLogarithms).
 //!
 //! Not proved here: that pseudo-remainders and contents, as the code forms them on lists of coefficients, are those of this theory; and that a/d with a residue that is not constant has no elementary integral.
