@@ -16,6 +16,19 @@ pub fn is_modulus(polynomial: &Poly) -> bool
     }
 }
 
+/// Whether the degree of a is below that of b.
+pub fn is_below(a: &Poly, b: &Poly) -> bool
+    ensures { IsTrue result → length a.now < length b.now }
+{
+    match b.degree() {
+        None => false,
+        Some(most) => match a.degree() {
+            None => true,
+            Some(degree) => degree < most,
+        },
+    }
+}
+
 /// The sum of the weights of coefficients that are not 0, of at most 256.
 fn weigh(coefficients: &[Elem]) -> u32
     requires { length coefficients.now ≤ 256 }
