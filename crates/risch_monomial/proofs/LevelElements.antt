@@ -2,13 +2,14 @@
 --     of_polynomial-stands      p as an element stands for p(t)
 --     value-some      p(t) ≠ 0 for p ≠ 0
 --     quotient-of_values      p(t)/q(t)
-use Rattle.std.proofs.Common.{◌≡◌, ℕ, ◌+◌, ◌≤◌, ◌<◌, Bool, true, false, List, [], ◌∷◌, length, Ok, refl, sym, ◌∙◌, ap, arith}
-use Rattle.risch_univariate.specs.PolynomialRing.{polynomials}
+use Rattle.std.specs.Prelude.{IfOk}
+use Rattle.std.proofs.Common.{◌≡◌, ℕ, ◌+◌, ◌≤◌, ◌<◌, Bool, true, false, List, [], ◌∷◌, length, Result, Ok, Err, refl, sym, ◌∙◌, ap, arith}
 use Rattle.risch_mean.specs.Element as mean
 use Rattle.risch_mean.specs.Element.{variable, ◌*ₑ◌}
 use Rattle.risch_mean.specs.ElementField.{elements}
 use Rattle.risch_level.specs.Levels.{Element, element}
-use Rattle.risch_field.specs.Checked.{and_then}
+use Rattle.risch_field.specs.Checked.{Checked, Agrees, and_then}
+use Rattle.risch_field.specs.declared.Fail.{Fail}
 use Rattle.risch_field.proofs.CheckedSteps.{and_then-ok}
 use Rattle.risch_element_theory.specs.WholeTower.{IsElement, IsPolynomial, meaning, polynomial, value_of, Within, AllWithin}
 use Rattle.risch_element_theory.proofs.ElementLaws.{quotient-is_element, quotient-stands, zero-told}
@@ -18,6 +19,11 @@ use Rattle.risch_element_theory.proofs.PartsLaws as Parts
 use Rattle.risch_monomial.specs.LevelElements.{one, of_polynomial, ratio}
 use Rattle.risch_monomial.proofs.LevelPolynomials.{at, at-polynomial}
 use Rattle.risch_monomial.proofs.MonicPolynomials.{one-is_polynomial, one-stands}
+
+-- what holds of each value of a rule holds of the value of a call that agrees with it
+pub agreed : {A : Type 0} (P : A → Type 0) (result : Result A Fail) (rule : Checked A) → Agrees result rule → ((a : A) → rule ≡ Ok a → P a) → IfOk result P
+agreed P (Ok a) rule h all = all a h
+agreed P (Err stop) rule h all = tt
 
 -- a list other than [] has items
 pub length-some : (p : List Element) → ¬ (p ≡ []) → 0 < length p

@@ -3,8 +3,8 @@
 --     at-derivative      (Dp)(t) = D(p(t))
 --     Over-derivative      the derivation keeps the field of the coefficients
 --     derivative-stands      a list of coefficients whose value at t is D(p(t)) stands for Dp
-use Rattle.std.proofs.Common.{◌≡◌, ℕ, zero, suc, ◌≤◌, List, [], ◌∷◌, length, get_or, map, refl, sym, ◌∙◌, ap, ap₂, arith, subst}
-use Rattle.risch_ring.specs.CommRing.{CommRing, Derivation, of_nat}
+use Rattle.std.proofs.Common.{◌≡◌, ℕ, zero, suc, ◌≤◌, List, [], ◌∷◌, length, get_or, map, sym, ◌∙◌, ap, ap₂, arith, subst}
+use Rattle.risch_ring.specs.CommRing.{CommRing, of_nat}
 use Rattle.risch_ring.specs.Lists.{Each}
 use Rattle.risch_ring.proofs.Laws as Laws
 use Rattle.risch_ring.proofs.Derivations as Derivations
@@ -24,15 +24,14 @@ use Rattle.risch_mean.specs.Tower.{Tower, IsTower, derive_in, kind_of, derivativ
 use Rattle.risch_mean.proofs.FieldClosure as FieldClosure
 use Rattle.risch_mean.proofs.Levels.{InField-derive_in}
 use Rattle.risch_mean.proofs.LevelKinds.{kind_is}
-use Rattle.risch_level.specs.Levels.{Element, element}
+use Rattle.risch_level.specs.Levels.{Element}
 use Rattle.risch_derivation.specs.declared.rate.Kind.{Kind}
 use Rattle.risch_derivation.specs.declared.rate.Kind.TheVariants.{Primitive, Exponential}
 use Rattle.risch_polynomial_theory.specs.Meaning.{AllValid}
 use Rattle.risch_element_theory.specs.ElementMeaning.{IsClosed, IsTranscendental}
 use Rattle.risch_element_theory.specs.DerivationMeaning.{kind_with}
 use Rattle.risch_element_theory.specs.PolynomialMeaning.{polynomial_of}
-use Rattle.risch_element_theory.specs.WholeTower.{IsElement, IsPolynomial, meaning, polynomial, value_of, Within, AllWithin}
-use Rattle.risch_element_theory.specs.ElementPolynomials.{◌*ₚ◌}
+use Rattle.risch_element_theory.specs.WholeTower.{IsElement, IsPolynomial, meaning, polynomial, value_of, AllWithin}
 use Rattle.risch_element_theory.proofs.DerivationTower.{derivation_in}
 use Rattle.risch_element_theory.proofs.ElementDerivation.{element-lies}
 use Rattle.risch_element_theory.proofs.ElementsTranscendence as Transcendence

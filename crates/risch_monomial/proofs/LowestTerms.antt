@@ -24,7 +24,6 @@ use Rattle.risch_level.specs.declared.over.Over.TheVariants.{Below, Quotient}
 use Rattle.risch_element_theory.specs.LevelMeaning.{valid_at, meaning_at}
 use Rattle.risch_element_theory.specs.PolynomialMeaning.{polynomial_of}
 use Rattle.risch_element_theory.specs.WholeTower.{IsElement, IsPolynomial, meaning, polynomial, value_of, Within}
-use Rattle.risch_element_theory.proofs.DivisionRule as DivisionRule
 use Rattle.risch_element_theory.proofs.ElementPolynomials.{element_interprets}
 use Rattle.risch_element_theory.proofs.ElementsTranscendence as Transcendence
 use Rattle.risch_element_theory.proofs.GcdRule as GcdRule

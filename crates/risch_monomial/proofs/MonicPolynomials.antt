@@ -1,8 +1,6 @@
 -- Monic polynomials over the elements: the test of 1, their length, and exact quotients.
-use Rattle.std.specs.Prelude.{slice_index_or}
-use Rattle.std.proofs.Common.{◌≡◌, ℕ, suc, ◌+◌, ◌-◌, ◌≤◌, ◌<◌, true, false, List, [], ◌∷◌, length, refl, sym, ◌∙◌, ap, arith, subst, pos}
+use Rattle.std.proofs.Common.{◌≡◌, suc, ◌≤◌, ◌<◌, true, false, List, [], ◌∷◌, length, refl, sym, ◌∙◌, ap, arith, pos}
 use Rattle.risch_ring.specs.CommRing.{Field, HasCharacteristicZero, of_int}
-use Rattle.risch_ring.specs.CommRing as rings
 use Rattle.risch_univariate.specs.Polynomial.{Polynomial}
 use Rattle.risch_univariate.specs.PolynomialRing.{polynomials}
 use Rattle.risch_univariate.specs.Degree.{size, IsMonic}

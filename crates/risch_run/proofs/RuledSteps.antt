@@ -1,7 +1,7 @@
 -- Steps of a rule that may stop: what ends a value ends the rule, and a value goes on. The answer with the result of a rule is the rule's.
 use Rattle.std.specs.Prelude.{IfOk}
 use Rattle.std.proofs.Common.{◌≡◌, Result, Ok, Err, refl}
-use Rattle.risch_field.specs.Checked.{Checked, Agrees, IsStopOf}
+use Rattle.risch_field.specs.Checked.{Checked, IsStopOf}
 use Rattle.risch_field.specs.declared.Fail.{Fail}
 use Rattle.risch_field.specs.declared.Fail.TheVariants.{Overflow, Size, Memory}
 use Rattle.risch_elem.specs.declared.units.Run.{Run}
@@ -9,12 +9,6 @@ use Rattle.risch_level.specs.Levels.{Element}
 use Rattle.risch_run.specs.declared.Ended.{Ended}
 use Rattle.risch_run.specs.declared.Ended.TheVariants as ended
 use Rattle.risch_run.specs.Ruled.{Ruled, formed, and_ruled, ended_by, run_of, IsRun, IsResult, IfDone, IfNotSound, IfEndNotSound, IfErrNotSound}
-
--- ---- values
--- what holds of each value of a rule holds of the value of a call that agrees with it
-pub agreed : {A : Type 0} (P : A → Type 0) (result : Result A Fail) (rule : Checked A) → Agrees result rule → ((a : A) → rule ≡ Ok a → P a) → IfOk result P
-agreed P (Ok a) rule h all = all a h
-agreed P (Err stop) rule h all = tt
 
 -- ---- a value is formed, and then a rule goes on
 pub stop_ends : {A B : Type 0} (end : Ended) (stop : Fail) (rule : Checked A) (next : A → Ruled B) →
@@ -26,6 +20,15 @@ stop_ends end Memory rule next e h = rw e tt
 pub value_goes_on : {A B : Type 0} (result : Result B Ended) (rule : Checked A) (next : A → Ruled B) (a : A) →
     rule ≡ Ok a → IsResult result (next a) → IsResult result (and_ruled (formed rule) next)
 value_goes_on result rule next a e h = rw e h
+
+-- ---- a rule that forms values alone
+pub formed_stops : {A : Type 0} (end : Ended) (stop : Fail) (rule : Checked A) → end ≡ ended_by stop → IsStopOf stop rule → IsResult {A = A} (Err end) (formed rule)
+formed_stops end (Overflow op) rule e h = rw (e, h) refl
+formed_stops end Size rule e h = rw (e, h) refl
+formed_stops end Memory rule e h = rw e tt
+
+pub formed_gives : {A : Type 0} (a : A) (rule : Checked A) → rule ≡ Ok a → IsResult (Ok a) (formed rule)
+formed_gives a rule h = rw h refl
 
 -- a stop of a value is not NotSound
 pub stop_is_sound : (end : Ended) (stop : Fail) (P : Element → Type 0) → end ≡ ended_by stop → IfEndNotSound end P
@@ -70,6 +73,6 @@ result_is_rule run (Err ended.Left) rule e h = rw e at h
 result_is_rule run (Err ended.Memory) rule e h = tt
 
 -- ---- together
-pub ruleset steps = (stop_ends, value_goes_on, stop_is_sound, end_passes, result_passes)
+pub ruleset steps = (stop_ends, value_goes_on, formed_stops, formed_gives, stop_is_sound, end_passes, result_passes)
 
 pub ruleset answers = (answer_is_run, answer_if_done, answer_if_not_sound)

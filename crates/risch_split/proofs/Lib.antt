@@ -7,3 +7,4 @@ pub mod CanonicalSums
 pub mod CanonicalMeaning
 pub mod Orders
 pub mod PartsRules
+pub mod Rules

@@ -1,5 +1,5 @@
 -- The canonical parts of an element f of a level: f = reduced + normal (Bronstein, section 3.5), and the order and the value of an element at the variable of a level, in the order in which the values are formed.
-use Rattle.std.specs.Prelude.{ℕ, ◌-◌, if◌then◌else◌, Option, None, Some, ℤ, pos, ◌-ℤ◌, List, Ok}
+use Rattle.std.specs.Prelude.{ℕ, if◌then◌else◌, Option, None, Some, ℤ, pos, ◌-ℤ◌, List, Ok}
 use Rattle.risch_field.specs.Checked.{Checked, and_then}
 use Rattle.risch_polynomial.specs.Poly as poly
 use Rattle.risch_polynomial.specs.Modular as modular
@@ -17,14 +17,14 @@ module _ (level : ℕ) where
   unfoldable pub reduced_part : List Element → List Element → List Element → Checked Element
   reduced_part q r s =
       and_then (of_polynomial level q) (λ polynomial.
-      and_then (ratio r s) (λ proper.
+      and_then (ratio level r s) (λ proper.
       element.sum polynomial proper))
 
   -- the parts q and r/n of q + r/n
   unfoldable pub without_special : List Element → List Element → List Element → Checked Canonical
   without_special q r n =
       and_then (of_polynomial level q) (λ reduced.
-      and_then (ratio r n) (λ normal.
+      and_then (ratio level r n) (λ normal.
       Ok (record { reduced = reduced; normal = normal })))
 
   -- the parts q + r/s and 0
@@ -36,7 +36,7 @@ module _ (level : ℕ) where
   parts_of q split None = Ok (record { reduced = element.zero; normal = element.zero })
   parts_of q split (Some solution) =
       and_then (reduced_part q solution.0 split.special) (λ reduced.
-      and_then (ratio solution.1 split.normal) (λ normal.
+      and_then (ratio level solution.1 split.normal) (λ normal.
       Ok (record { reduced = reduced; normal = normal })))
 
   -- the parts of q + r/(n·s)

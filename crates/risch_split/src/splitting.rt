@@ -39,7 +39,7 @@ impl Split {
 }
 
 /// S = gcd(d, Dd) quo gcd(d, ∂d), the product of the special irreducible factors of d, each once.
-#[tactic(auto, using(risch_field::proofs::CheckedSteps::stop_passes, risch_field::proofs::CheckedSteps::value_passes), unfolding(crate::specs::Splitting::special_factor))]
+#[tactic(auto, using(risch_field::proofs::CheckedSteps::stop_passes, risch_field::proofs::CheckedSteps::value_passes), unfolding(crate::specs::Splitting::special_factor, risch_polynomial::specs::Poly::quo))]
 fn special_factor(alloc: Global, tower: &Tower, level: u8, poly: &Poly) -> Result<Poly, Fail>
     requires level { level ≤ length tower.now }
     requires within { AllWithin level poly.now }

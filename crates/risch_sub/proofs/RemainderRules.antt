@@ -7,7 +7,6 @@ use Rattle.std.proofs.lemmas.List.Elements.{All-nil, All-cons, All-head, All-tai
 use Rattle.risch_univariate.specs.Degree.{IsMonic}
 use Rattle.risch_mean.specs.ElementField.{elements}
 use Rattle.risch_field.specs.Checked.{Checked, and_then}
-use Rattle.risch_field.specs.declared.Fail.TheVariants.{Size}
 use Rattle.risch_field.proofs.CheckedSteps.{Passes, and_then-ok, if-ok}
 use Rattle.risch_polynomial.specs.Poly as poly
 use Rattle.risch_level.specs.Levels.{element}
@@ -150,7 +149,6 @@ module _ {P : InZ → Type 0} (h : Keeps P) where
       steps-keep b all_b steps s.value result (step-keeps b r s.value steps all_b k.all s.is) s.next
 
   remainder-keeps : (a b r : Member) → IsMember a → All P b → pseudo_remainder a b ≡ Ok r → IsMember r
-  unfolding pseudo_remainder
   remainder-keeps a b r k all_b e = steps-keep b all_b (length a + 1 - length b) a r k e
 
   -- ---- the content

@@ -3,13 +3,13 @@
 --     weight_more, weight_take      the weight
 --     differences_end      the rest of the longer polynomial
 --     leading-is, divisors_more, divisors_stop      the content
---     left_stops, right_stops, step_formed, pseudo_steps-more, pseudo_steps_stop      the pseudo-division
+--     left-is, left_stops, right_stops, step_formed, pseudo_steps-more, pseudo_steps_stop      the pseudo-division
 --     sequence_done, sequence_zero, sequence-more, remainder_stops, part_stops      the sequence
-use Rattle.std.specs.Prelude.{nat_le, if◌then◌else◌, replicate}
+use Rattle.std.specs.Prelude.{nat_le, replicate}
 use Rattle.std.proofs.Common.{◌≡◌, refl, sym, ap, ◌∙◌, ℕ, zero, suc, ◌+◌, ◌-◌, ◌≤◌, ◌<◌, min, leb, Bool, true, false, List, [], ◌∷◌, ◌++◌, map, take, drop, length, get_or, Ok, Err, arith, append_assoc, append-nil, length-append, length-drop, ◌⊎◌, inl, inr}
 use Rattle.std.proofs.lemmas.Bool.{leb-true, leb-false}
 use Rattle.std.proofs.lemmas.Bool.Decides.{nat_tests}
-use Rattle.std.proofs.lemmas.List.{take_all, take_more}
+use Rattle.std.proofs.lemmas.List.{take_all, take_min, take_more}
 use Rattle.risch_field.specs.Checked.{Checked, and_then, IsStopOf}
 use Rattle.risch_field.specs.declared.Fail.{Fail}
 use Rattle.risch_field.proofs.CheckedSteps.{stop_passes}
@@ -159,6 +159,9 @@ module _ (b r : Member) (e : ℕ) where
   -- c·t^e·b below e + deg b
   abbrev pub right : Checked Member
   right = products_onto (replicate e []) (get_or r (e + (length b - 1)) []) (take (length b - 1) b)
+
+  pub left-is : (p : InZ) (k : ℕ) → 0 < length b → p ≡ get_or b (length b - 1) p → k ≡ min (e + (length b - 1)) (length r) → products_onto [] p (take k r) ≡ left
+  left-is p k some is place = rw (leading-is b p some is, place, take_min (e + (length b - 1)) r) refl
 
   less_right : Member → Checked Member
   less_right m = and_then right (λ n. and_then (sized n) (λ n. and_then (differences_onto [] m n) sized))

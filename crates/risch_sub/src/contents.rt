@@ -53,8 +53,8 @@ fn push_quotients(
 ) -> Result<(), Fail>
     ensures { AgreesWith result to.new.items (spec.quotients_onto to.old.items items.now by.now) }
 {
-    for i in 0..items.len() {
-        let quotient = quo(alloc, &items[i], by)?;
+    for item in items {
+        let quotient = quo(alloc, item, by)?;
         to.push(quotient)?;
     }
     Ok(())

@@ -88,18 +88,22 @@ fn push_negatives(alloc: Global, to: &mut Vec<Inner>, from: &[Inner]) -> Result<
 }
 
 /// Appends c·m_0, c·m_1, ..
-fn push_products(alloc: Global, to: &mut Vec<Inner>, by: &Inner, items: &[Inner]) -> Result<(), Fail>
+fn push_products(
+    alloc: Global,
+    to: &mut Vec<Inner>,
+    by: &Inner,
+    items: &[Inner],
+) -> Result<(), Fail>
     ensures { AgreesWith result to.new.items (spec.products_onto to.old.items by.now items.now) }
 {
-    for i in 0..items.len() {
-        let product = by.mul(alloc, &items[i])?;
+    for item in items {
+        let product = by.mul(alloc, item)?;
         to.push(product)?;
     }
     Ok(())
 }
 
 /// p - q.
-#[tactic(auto)]
 fn less(alloc: Global, from: &Inner, other: &Inner) -> Result<Inner, Fail>
     ensures { Agrees result (poly.sum element from.now (poly.negatives element other.now)) }
 {
@@ -108,7 +112,12 @@ fn less(alloc: Global, from: &Inner, other: &Inner) -> Result<Inner, Fail>
 }
 
 /// Appends m_0 - n_0, m_1 - n_1, ..
-fn push_differences(alloc: Global, to: &mut Vec<Inner>, left: &[Inner], right: &[Inner]) -> Result<(), Fail>
+fn push_differences(
+    alloc: Global,
+    to: &mut Vec<Inner>,
+    left: &[Inner],
+    right: &[Inner],
+) -> Result<(), Fail>
     ensures { AgreesWith result to.new.items (spec.differences_onto to.old.items left.now right.now) }
 {
     let both = left.len().min(right.len());
@@ -134,7 +143,12 @@ pub(crate) fn copy(alloc: Global, of: &[Inner]) -> Result<Member, AllocError>
 ///
 /// Stops: that of the first product that cannot be formed, exponents ascending; Size where the weight is beyond its limit.
 #[tactic(auto, using(risch_field::proofs::CheckedSteps::stop_passes, risch_field::proofs::CheckedSteps::value_passes))]
-pub(crate) fn multiple(alloc: Global, exponent: usize, by: &Inner, of: &[Inner]) -> Result<Member, Fail>
+pub(crate) fn multiple(
+    alloc: Global,
+    exponent: usize,
+    by: &Inner,
+    of: &[Inner],
+) -> Result<Member, Fail>
     ensures { Agrees result (and_then (spec.products_onto (replicate exponent []) by.now of.now) spec.sized) }
 {
     let mut products = Vec::new(alloc);
@@ -156,7 +170,10 @@ pub(crate) fn difference(alloc: Global, left: &[Inner], right: &[Inner]) -> Resu
 }
 
 /// The same polynomials, the coefficients of whose coefficients are in normal form.
-pub(crate) fn wrapped_members(alloc: Global, from: Items<Member>) -> Result<Items<PolyList>, AllocError>
+pub(crate) fn wrapped_members(
+    alloc: Global,
+    from: Items<Member>,
+) -> Result<Items<PolyList>, AllocError>
     requires { All (All IsPolynomial) from }
     ensures { IfOk result (λ it. it ≡ from) }
 {

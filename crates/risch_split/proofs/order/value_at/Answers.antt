@@ -3,7 +3,7 @@ use Rattle.risch_split.proofs.Orders.{denominator-some, coefficient-within}
 use Rattle.risch_split.proofs.order.value_at.Goals as goal
 
 pub div-requires : goal.div-requires
-div-requires c = rw (c.in_ok-bottom.ensures, c.in_ok-denominator.ensures.rule) (denominator-some c.args.level c.args.element.now (omega arith) c.nest-_nest.ensures.normal c.requires.order)
+div-requires c = rw (c.in_ok-bottom.ensures, c.in_ok-denominator.ensures.rule) (denominator-some c.args.level c.args.element.now (omega arith) c.nest-nest.ensures.normal c.requires.order)
 
 pub returns-clause-within : goal.returns-clause-within
 returns-clause-within c = λ w.

@@ -19,7 +19,7 @@ returns-clause-meaning c =
     let level = c.args.level in
     let d = c.args.poly.now in
     let d' = c.in_ok-derivative.derivative in
-    let derived = derivative-stands tower level d d' c.level_of.ensures c.inner-_inner.ensures.normal c.requires.within c.inner-_derivative_inner.ensures.normal
+    let derived = derivative-stands tower level d d' c.level_of.ensures c.inner-inner.ensures.normal c.requires.within c.inner-derivative_inner.ensures.normal
     (c.in_ok-derivative.ensures.within level (omega arith) c.requires.within) c.in_ok-derivative.ensures.meaning in
     step-of tower level d d' c.in_ok-with_derivative.with_derivative c.in_ok-partial.partial c.in_ok-with_partial.with_partial c.in_ok-factor.factor c.in_ok-factor._rest c.requires.monic derived
     c.in_ok-with_derivative.ensures.meaning c.in_ok-partial.ensures.meaning c.in_ok-with_partial.ensures.meaning c.in_ok-factor.ensures.meaning

@@ -1,4 +1,4 @@
-use Rattle.std.proofs.Common.{◌≡◌, ◌-◌, sym, ap, ◌∙◌, take, length, Ok, arith, subst}
+use Rattle.std.proofs.Common.{◌-◌, sym, ap, ◌∙◌, take, length, arith, subst}
 use Rattle.risch_field.specs.Checked.{IsStopOf}
 use Rattle.risch_field.proofs.CheckedSteps.{stop_passes, value_passes}
 use Rattle.risch_polynomial.specs.Poly as poly
