@@ -1,0 +1,12 @@
+pub mod PowerLaws
+pub mod StepRules
+pub mod StepsSoFar
+pub mod HermiteIdentity
+pub mod HermiteStep
+pub mod NormalProducts
+pub mod PartsOf
+pub mod PartRules
+pub mod PartMeaning
+pub mod ReductionRules
+pub mod ReductionEnd
+pub mod ReductionStart
