@@ -7,4 +7,3 @@ pub mod CanonicalSums
 pub mod CanonicalMeaning
 pub mod Orders
 pub mod PartsRules
-pub mod Rules
