@@ -1,5 +1,5 @@
 // The calls that reduce polynomials and elements of a tower.
-ghost use Rattle.std.specs.Prelude.{◌≤◌, ◌+◌, ℕ, length, IfOk};
+ghost use Rattle.std.specs.Prelude.{◌≤◌, ◌<◌, ◌+◌, ℕ, length, IfOk};
 ghost use Rattle.risch_univariate.specs.Degree.{IsMonic};
 ghost use Rattle.risch_mean.specs.ElementField.{elements};
 ghost use Rattle.risch_element_theory.specs.WholeTower.{polynomial, Within, AllWithin};
@@ -21,7 +21,8 @@ use std::alloc::{AllocError, Global};
 
 // The level of the tower that a number stands for.
 fn tower_level(tower: &Tower, at: &Elem) -> Result<u8, Halt>
-    ensures { IfOk result (λ it. it ≤ length tower.now) }
+    ensures there { IfOk result (λ it. it ≤ length tower.now) }
+    ensures small { IfOk result (λ it. it < 5) }
 {
     let level = level(at.as_num())?;
     if level > tower.height() {
