@@ -2,7 +2,7 @@
 use crate::halt::Halt;
 use crate::towers::{Towers, push};
 use crate::values::Values;
-use crate::{elements, fractions, polynomials, towers, units};
+use crate::{elements, fractions, polynomials, sequences, towers, units};
 use risch_tables::{Case, Fault, Report, first_word};
 use std::alloc::{AllocError, Global};
 
@@ -73,6 +73,7 @@ impl ElementCase {
                 polynomials::play(alloc, &self.towers.tower, call, operands, &mut self.values)
             }
             "coefficients" => polynomials::of(alloc, value, &mut self.values),
+            "remainders" => sequences::play(alloc, value, &mut self.values),
             "tower" => towers::play(alloc, &self.towers, call, operands, &mut self.values),
             "units" => units::play(call, operands, &mut self.values),
             _ => Err(Halt::cause("no such key")),

@@ -1,6 +1,7 @@
 // The conditions of calls that the library has no test for.
 ghost use Rattle.std.specs.Prelude.{◌≡◌, ◌≤◌, ◌<◌, ◌+◌, length, IsTrue, IfOk};
 ghost use Rattle.risch_polynomial.specs.Poly as poly;
+ghost use Rattle.risch_element_theory.specs.WholeTower.{Within};
 ghost use Rattle.risch_level.specs.Levels.{element};
 
 use crate::halt::Halt;
@@ -13,6 +14,19 @@ pub fn is_modulus(polynomial: &Poly) -> bool
     match polynomial.degree() {
         None => false,
         Some(degree) => degree > 0,
+    }
+}
+
+/// Whether the degree of a is below that of b.
+pub fn is_below(a: &Poly, b: &Poly) -> bool
+    ensures { IsTrue result → length a.now < length b.now }
+{
+    match b.degree() {
+        None => false,
+        Some(most) => match a.degree() {
+            None => true,
+            Some(degree) => degree < most,
+        },
     }
 }
 
@@ -43,7 +57,8 @@ pub fn are_coefficients(coefficients: &ElemList) -> bool
 /// The level, where an element lies in it.
 pub fn level_of(element: &Elem, level: u8) -> Result<u8, Halt>
     requires { level < 5 }
-    ensures { IfOk result (λ it. it ≡ level) }
+    ensures value { IfOk result (λ it. it ≡ level) }
+    ensures within { IfOk result (λ it. Within (it + 1) element.now) }
 {
     if !element.is_within(level + 1) {
         return Err(Halt::cause("an element that does not lie in the level"));

@@ -2,6 +2,7 @@
 use crate::conditions::level_of;
 use crate::halt::Halt;
 use crate::operands::{elements, level};
+use crate::reductions;
 use crate::values::Values;
 use risch_elem::Elem;
 use risch_tower::Tower;
@@ -18,7 +19,10 @@ pub fn play(
     let operands = elements(alloc, operands)?;
     match operands.as_slice() {
         [a] => of_one(alloc, tower, call, a, values),
-        [a, b] => of_two(alloc, call, a, b, values),
+        [a, b] => of_two(alloc, tower, call, a, b, values),
+        [a, at, most] if call == "hermite" => {
+            reductions::reduction(alloc, tower, a, at, most, values)
+        }
         _ => Err(Halt::cause("no such call")),
     }
 }
@@ -43,7 +47,14 @@ fn of_one(
     }
 }
 
-fn of_two(alloc: Global, call: &str, a: &Elem, b: &Elem, values: &mut Values) -> Result<(), Halt> {
+fn of_two(
+    alloc: Global,
+    tower: &Tower,
+    call: &str,
+    a: &Elem,
+    b: &Elem,
+    values: &mut Values,
+) -> Result<(), Halt> {
     match call {
         "same" => values.answer(a.same(b)),
         "add" => values.element(a.add(alloc, b)?),
@@ -51,6 +62,9 @@ fn of_two(alloc: Global, call: &str, a: &Elem, b: &Elem, values: &mut Values) ->
         "div" => div(alloc, a, b, values),
         "num_poly" => num_poly(alloc, a, b, values),
         "den_poly" => den_poly(alloc, a, b, values),
+        "canonical" => reductions::canonical_parts(alloc, tower, a, b, values),
+        "order_at" => reductions::order(alloc, a, b, values),
+        "value_at" => reductions::value(alloc, a, b, values),
         _ => Err(Halt::cause("no such call")),
     }
 }

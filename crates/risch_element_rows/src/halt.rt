@@ -20,6 +20,15 @@ impl Halt {
     }
 }
 
+/// The name of the overflow of an operation.
+pub fn name_of(op: Op) -> &'static str {
+    match op {
+        Op::Add => "overflow-add",
+        Op::Mul => "overflow-mul",
+        Op::Div => "overflow-div",
+    }
+}
+
 impl From<Fault> for Halt {
     fn from(fault: Fault) -> Halt {
         Halt::Fault(fault)
@@ -28,11 +37,7 @@ impl From<Fault> for Halt {
 
 impl From<Op> for Halt {
     fn from(op: Op) -> Halt {
-        Halt::Stop(match op {
-            Op::Add => "overflow-add",
-            Op::Mul => "overflow-mul",
-            Op::Div => "overflow-div",
-        })
+        Halt::Stop(name_of(op))
     }
 }
 

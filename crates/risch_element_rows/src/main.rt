@@ -20,6 +20,8 @@
 //! | `push`, `push-other` | `log` or `exp` and its argument: a monomial that is pushed on the tower of the case, or on another that `tower same` compares with it |
 //! | `fraction`, `element`, `polynomial`, `tower` | a call of that type and its operands |
 //! | `coefficients` | elements: the call that makes the polynomial with these coefficients from exponent 0 |
+//! | `remainders` | the least degree, the number of coefficients of the first member, and the coefficients of the first two members from exponent 0, polynomials in z: the coefficients of each member of the primitive remainder
+//! sequence, and `end` after each |
 //! | `units` | two numbers, most and n: n units are counted, of which there may be that many; how many there are, and `done` or `budget` |
 //! | `is` | words for the values of the calls, one for each; all such lines of a case are one |
 //!
@@ -43,6 +45,12 @@
 //! | `polynomial gcd` | two polynomials; the monic common divisor |
 //! | `polynomial inverse_mod` | b and a; the inverse of b modulo a, or `none` |
 //! | `polynomial solve_mod` | a, b and c; r and z with b·r + a·z = c |
+//! | `polynomial square_free` | a polynomial; the square-free parts of its monic multiple, and `end` |
+//! | `polynomial characteristic` | d, u and a number n; the traces of u, .., u^n modulo the monic multiple of d |
+//! | `polynomial split` | a polynomial and the level of its variable; the normal and the special part of its monic multiple |
+//! | `element canonical` | an element and a level; its reduced and its normal part |
+//! | `element order_at`, `value_at` | an element and a level; its order there, and its value where that is 0 |
+//! | `element hermite` | an element, a level and a number of units; g, h and the rest of its normal part, or the stop, and how many units it cost |
 //! | `polynomial quotient` | two polynomials and a level; the element |
 //! | `polynomial derive_poly` | a polynomial and the level of its variable; its derivative in the tower |
 //! | `tower height` | the number of monomials |
@@ -51,7 +59,7 @@
 //! | `tower same` | whether the two towers are the same |
 //!
 //! A value is a fraction, an element or a polynomial, which an expression stands for where the two are the same, or a name: `yes`, `no`
-//! and those above. The stop or the refusal of a call is its value too: `overflow-add`, `overflow-mul`, `overflow-div`, `size`,
+//! and those above. The stop or the refusal of a call is its value too: `overflow-add`, `overflow-mul`, `overflow-div`, `size`, `budget`, `not-sound` with its element,
 //! `too-high`, `zero-argument` or `constant-argument`. A call whose condition does not hold is not made: its line is badly written.
 //!
 //! The program prints each difference, and for each line or case that is badly written why. That counts as a difference
@@ -65,6 +73,8 @@ mod fractions;
 mod halt;
 mod operands;
 mod polynomials;
+mod reductions;
+mod sequences;
 mod towers;
 mod units;
 mod values;

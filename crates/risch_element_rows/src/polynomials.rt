@@ -2,6 +2,7 @@
 use crate::conditions::{are_coefficients, is_modulus};
 use crate::halt::Halt;
 use crate::operands::{constant, elements, exponent, level, polynomials};
+use crate::reductions;
 use crate::values::Values;
 use risch_elem::{Elem, ElemList, Poly};
 use risch_tower::Tower;
@@ -33,6 +34,7 @@ fn of_one(alloc: Global, call: &str, a: &Poly, values: &mut Values) -> Result<()
         "neg" => values.polynomial(a.neg(alloc)?),
         "monic" => values.polynomial(a.monic(alloc)?),
         "partial" => values.polynomial(a.partial(alloc)?),
+        "square_free" => reductions::parts(alloc, a, values),
         _ => Err(Halt::cause("no such call")),
     }
 }
@@ -55,6 +57,7 @@ fn of_two(
         "gcd" => gcd(alloc, a, b, values),
         "inverse_mod" => inverse_mod(alloc, a, b, values),
         "derive_poly" => derive_poly(alloc, tower, a, b, values),
+        "split" => reductions::splitting(alloc, tower, a, b, values),
         _ => Err(Halt::cause("no such call")),
     }
 }
@@ -70,6 +73,7 @@ fn of_three(
     match call {
         "quotient" => quotient(alloc, a, b, c, values),
         "solve_mod" => solve_mod(alloc, a, b, c, values),
+        "characteristic" => reductions::traces(alloc, a, b, c, values),
         _ => Err(Halt::cause("no such call")),
     }
 }

@@ -97,6 +97,11 @@ impl Values {
         }
     }
 
+    /// A whole number, with its sign.
+    pub fn integer(&mut self, number: i16) -> Result<(), Halt> {
+        self.element(Elem::num(Frac::new(i128::from(number), 1)))
+    }
+
     /// A whole number that may be wanting.
     pub fn whole(&mut self, number: Option<u64>) -> Result<(), Halt> {
         match number {
