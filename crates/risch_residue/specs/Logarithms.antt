@@ -31,8 +31,8 @@ difference_in_z a e = poly.trimmed element (a ∷ element.negative e ∷ [])
 abbrev pub differences_in_z : List Element → List Element → Member
 differences_in_z [] [] = []
 differences_in_z [] (e ∷ es) = difference_in_z element.zero e ∷ differences_in_z [] es
-differences_in_z (a ∷ as) [] = difference_in_z a element.zero ∷ differences_in_z as []
-differences_in_z (a ∷ as) (e ∷ es) = difference_in_z a e ∷ differences_in_z as es
+differences_in_z (a ∷ more) [] = difference_in_z a element.zero ∷ differences_in_z more []
+differences_in_z (a ∷ more) (e ∷ es) = difference_in_z a e ∷ differences_in_z more es
 
 -- ---- the argument of R, from a member
 -- p_0 rem R, p_1 rem R, .., after those that are formed
@@ -67,25 +67,36 @@ fraction_of (Some q) = q
 abbrev pub fractions_of : List Element → List Fraction
 fractions_of R = map (λ c. fraction_of (as_number 5 c)) R
 
--- the coefficients at z^k of the coefficients of t^0, t^1, ..
+-- the coefficients at z^k of the coefficients of t^0, t^1, .., as a polynomial in t
 abbrev pub coefficients_at : ℕ → Member → List Element
-coefficients_at k m = poly.trimmed element (map (λ p. poly.coefficient element p k) m)
+coefficients_at k m = map (λ p. poly.coefficient element p k) m
+
+unfoldable pub polynomial_at : ℕ → Member → Checked (List Element)
+polynomial_at k m = poly.sized element (poly.trimmed element (coefficients_at k m))
 
 -- one more than the highest exponent of z
 abbrev pub width : Member → ℕ
 width [] = 0
 width (p ∷ m) = max (length p) (width m)
 
--- the coefficients at z^k, z^(k+1), .. as elements of the level, as many as `steps`, after those that are formed
+-- this polynomial as an element of the level
+unfoldable pub element_at : ℕ → ℕ → Member → Checked Element
+element_at level k m = and_then (polynomial_at k m) (of_polynomial level)
+
+-- the elements at z^k, z^(k+1), .., as many as `steps`, after those that are formed
 abbrev pub by_powers_from : ℕ → ℕ → ℕ → List Element → Member → Checked (List Element)
 by_powers_from level k zero formed m = Ok formed
-by_powers_from level k (suc steps) formed m = and_then (of_polynomial level (coefficients_at k m)) (λ c. by_powers_from level (suc k) steps (formed ++ c ∷ []) m)
+by_powers_from level k (suc steps) formed m = and_then (element_at level k m) (λ c. by_powers_from level (suc k) steps (formed ++ c ∷ []) m)
+
+-- how many powers of z count modulo R: z is c modulo z - c
+abbrev pub power_count : InZ → Member → ℕ
+power_count R S = if nat_eq (length R) 2 then 1 else width S
 
 -- R = z - c: c times the logarithm of S with z replaced by c, where the coefficients of S modulo R are constants
 -- else: S ordered by powers of z
 unfoldable pub logarithm : ℕ → List Element → Member → Checked LogPart
 logarithm level R S =
-    and_then (by_powers_from level 0 (if nat_eq (length R) 2 then 1 else width S) [] S) (λ formed.
+    and_then (by_powers_from level 0 (power_count R S) [] S) (λ formed.
     and_then (poly.sized element (poly.trimmed element formed)) (λ arg.
     Ok (record { poly = fractions_of R; arg = arg })))
 

@@ -36,4 +36,4 @@ alternating minus (e ∷ es) = poly.signed element minus e ∷ alternating (not 
 
 -- C, for the traces p_1 .. p_m
 unfoldable pub characteristic_polynomial : List Element → Checked (List Element)
-characteristic_polynomial ps = and_then (symmetrics_from (length ps) (element.one ∷ []) ps) (λ es. Ok (reverse (alternating false es)))
+characteristic_polynomial ps = and_then (symmetrics_from (length ps) (element.one ∷ []) ps) (λ es. poly.sized element (poly.trimmed element (reverse (alternating false es))))
