@@ -1,7 +1,7 @@
 -- The argument of a logarithm: its rule at the polynomial 0, and the variables that occur.
-use Rattle.std.proofs.Common.{◌≡◌, ℕ, zero, suc, ◌+◌, ◌-◌, ◌<◌, List, [], ◌∷◌, ◌++◌, take, length, Option, None, Some, All, Ok, Err, refl, subst, arith}
-use Rattle.std.proofs.lemmas.List.Elements.{All-nil, All-cons, All-head, All-tail, All-push, All-take}
-use Rattle.risch_field.specs.Checked.{Checked, and_then}
+use Rattle.std.proofs.Common.{◌≡◌, ℕ, ◌-◌, [], ◌∷◌, ◌++◌, take, length, Option, None, Some, All, Ok, refl, subst, arith}
+use Rattle.std.proofs.lemmas.List.Elements.{All-nil, All-head, All-tail, All-push, All-take}
+use Rattle.risch_field.specs.Checked.{and_then}
 use Rattle.risch_field.proofs.CheckedSteps.{and_then-ok}
 use Rattle.risch_polynomial.specs.Poly as poly
 use Rattle.risch_polynomial.specs.Modular as modular

@@ -1,6 +1,6 @@
 -- The steps of the rules of the logarithms, and the variables that occur.
 use Rattle.std.specs.Prelude.{nat_le}
-use Rattle.std.proofs.Common.{◌≡◌, ℕ, zero, suc, ◌+◌, ◌-◌, ◌≤◌, ◌<◌, Bool, true, false, ◌&&◌, List, [], ◌∷◌, ◌++◌, length, All, IfOk, Result, Ok, Err, refl, sym, subst, arith, add-one}
+use Rattle.std.proofs.Common.{◌≡◌, ℕ, zero, suc, ◌+◌, ◌-◌, ◌≤◌, ◌<◌, ◌&&◌, List, [], ◌∷◌, ◌++◌, length, All, IfOk, Result, Ok, Err, refl, sym, subst, arith, add-one}
 use Rattle.std.proofs.lemmas.List.Elements.{All-head, All-tail}
 use Rattle.risch_field.specs.Checked.{Agrees, IsStopOf}
 use Rattle.risch_field.specs.declared.Fail.{Fail}

@@ -1,8 +1,8 @@
 -- The steps of Newton's identities.
-use Rattle.std.proofs.Common.{◌≡◌, ℕ, zero, suc, ◌+◌, ◌-◌, ◌<◌, ◌≤◌, Bool, not, true, false, leb, min, List, [], ◌∷◌, ◌++◌, length, drop, reverse, get_or, Ok, refl, sym, ◌∙◌, ap, arith, append_assoc, append-nil}
+use Rattle.std.proofs.Common.{◌≡◌, ℕ, zero, suc, ◌+◌, ◌-◌, ◌<◌, ◌≤◌, Bool, not, true, false, leb, min, List, [], ◌∷◌, ◌++◌, length, drop, get_or, Ok, refl, ◌∙◌, arith}
 use Rattle.std.proofs.lemmas.List.{drop_more, drop_all}
 use Rattle.std.proofs.lemmas.Bool.{leb-true, leb-false}
-use Rattle.risch_field.specs.Checked.{Checked, and_then, IsStopOf}
+use Rattle.risch_field.specs.Checked.{and_then, IsStopOf}
 use Rattle.risch_field.specs.declared.Fail.{Fail}
 use Rattle.risch_field.proofs.CheckedSteps.{stop_passes}
 use Rattle.risch_polynomial.specs.Poly as poly

@@ -1,8 +1,8 @@
 -- The logarithms of the residues of h = a/d (Bronstein, sections 2.5 and 5.6, Rothstein, Trager, Lazard and Rioboo), in the order in which the values are formed: for the square-free parts R_1, R_2, .. of the characteristic polynomial C
 -- the sum over the roots z of R_i of z·log S_i(z), where S_i is d for i = deg d, and else the member of degree i of the primitive remainder sequence of d and a - z·Dd, its leading coefficient made 1 modulo R_i.
-use Rattle.std.specs.Prelude.{ℕ, zero, suc, ◌-◌, nat_eq, max, if◌then◌else◌, Option, None, Some, List, [], ◌∷◌, ◌++◌, length, map, take, get_or, Ok, Err}
+use Rattle.std.specs.Prelude.{ℕ, zero, suc, ◌-◌, nat_eq, max, if◌then◌else◌, Option, None, Some, List, [], ◌∷◌, ◌++◌, length, map, take, Ok}
 use Rattle.risch_frac.specs.Fraction.{Fraction}
-use Rattle.risch_field.specs.Checked.{Checked, and_then, map_ok}
+use Rattle.risch_field.specs.Checked.{Checked, and_then}
 use Rattle.risch_field.specs.Ground.{ground}
 use Rattle.risch_polynomial.specs.Poly as poly
 use Rattle.risch_polynomial.specs.Modular as modular

@@ -1,6 +1,6 @@
 -- The characteristic polynomial of ρ from the traces p_1 .. p_m of its powers, by Newton's identities (Bronstein, section 5.6), in the order in which the values are formed: e_0 = 1, e_i = (1/i)·(e_(i-1)·p_1 - e_(i-2)·p_2 + ..), and
 -- C = z^m - e_1·z^(m-1) + e_2·z^(m-2) - ..
-use Rattle.std.specs.Prelude.{ℕ, zero, suc, ◌+◌, ◌-◌, Bool, true, false, not, List, [], ◌∷◌, ◌++◌, length, reverse, get_or, pos, Ok}
+use Rattle.std.specs.Prelude.{ℕ, zero, suc, Bool, false, not, List, [], ◌∷◌, ◌++◌, length, reverse, pos, Ok}
 use Rattle.risch_frac.specs.Fraction as fraction
 use Rattle.risch_field.specs.Checked.{Checked, and_then}
 use Rattle.risch_polynomial.specs.Poly as poly

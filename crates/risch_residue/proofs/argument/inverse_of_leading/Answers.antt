@@ -1,10 +1,8 @@
-use Rattle.std.proofs.Common.{◌≡◌, ap, sym, length, [], arith, subst}
+use Rattle.std.proofs.Common.{sym, arith, subst}
 use Rattle.risch_field.specs.Checked.{Agrees}
 use Rattle.risch_polynomial.specs.Modular as modular
 use Rattle.risch_level.specs.Levels.{element}
-use Rattle.risch_sub.specs.RemainderSequence.{leading}
 use Rattle.risch_sub.proofs.RemainderSteps.{leading-is}
-use Rattle.risch_residue.proofs.ArgumentSteps.{leading-nil}
 use Rattle.risch_residue.proofs.argument.inverse_of_leading.Goals as goal
 
 pub returns : goal.returns

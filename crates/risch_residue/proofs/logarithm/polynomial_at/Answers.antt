@@ -1,4 +1,3 @@
-use Rattle.std.proofs.Common.{◌≡◌}
 use Rattle.risch_polynomial_theory.specs.Meaning.{AllValid}
 use Rattle.risch_element_theory.specs.WholeTower.{IsElement}
 use Rattle.risch_residue.proofs.LogarithmSteps.{formed-is_polynomial}

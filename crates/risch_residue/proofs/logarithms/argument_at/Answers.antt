@@ -1,4 +1,4 @@
-use Rattle.std.proofs.Common.{◌≡◌, ◌<◌, [], length, All, sym, subst}
+use Rattle.std.proofs.Common.{◌<◌, [], length, All, sym, subst}
 use Rattle.std.proofs.lemmas.List.Elements.{All-nil, All-get_or}
 use Rattle.risch_element_theory.specs.WholeTower.{AllWithin}
 use Rattle.risch_sub.specs.RemainderSequence.{Member}

@@ -1,4 +1,4 @@
-use Rattle.std.proofs.Common.{◌≡◌, ◌≤◌, List, length, All, sym, subst, arith}
+use Rattle.std.proofs.Common.{◌≤◌, List, length, All, sym, subst, arith}
 use Rattle.risch_level.specs.Levels.{Element}
 use Rattle.risch_element_theory.specs.WholeTower.{AllWithin}
 use Rattle.risch_residue.proofs.NewtonRules.{parts-within, parts-count}

@@ -1,4 +1,4 @@
-use Rattle.std.proofs.Common.{◌≡◌, ◌∙◌, ◌<◌, ◌≤◌, length, reverse, get_or, sym, min, arith}
+use Rattle.std.proofs.Common.{◌≡◌, ◌∙◌, ◌<◌, length, reverse, get_or, sym, min, arith}
 use Rattle.std.proofs.lemmas.List.{get_or-reverse, length-reverse}
 use Rattle.risch_residue.proofs.NewtonSteps.{sum_end, sum_more, product_stops, sum_stops}
 use Rattle.risch_residue.proofs.newton.alternating_sum.Goals as goal
