@@ -1,16 +1,13 @@
 -- The rule of the traces, step by step.
 use Rattle.std.specs.Prelude.{⊤}
-use Rattle.std.proofs.Common.{◌≡◌, ℕ, zero, suc, ◌+◌, ◌-◌, ◌<◌, inl, inr, List, [], ◌∷◌, ◌++◌, length, None, Some, Result, Ok, Err, refl, sym, arith}
+use Rattle.std.proofs.Common.{◌≡◌, ℕ, zero, suc, ◌+◌, ◌-◌, ◌<◌, List, [], ◌∷◌, ◌++◌, length, None, Some, Result, Ok, Err, refl, sym, arith}
 use Rattle.risch_frac.specs.Fraction.{Fraction}
 use Rattle.risch_field.specs.Checked.{IsStopOf}
 use Rattle.risch_field.specs.declared.Fail.{Fail}
 use Rattle.risch_level.specs.Accessors.{as_number}
 use Rattle.risch_level.specs.Levels.{Element}
-use Rattle.risch_elem.specs.declared.units.Stop.{Stop}
-use Rattle.risch_elem.specs.declared.units.Stop.TheVariants as stops
 use Rattle.risch_run.specs.declared.Ended.{Ended}
-use Rattle.risch_run.specs.declared.Ended.TheVariants as ended
-use Rattle.risch_run.specs.Ruled.{formed, ended_by, IfEndNotSound}
+use Rattle.risch_run.specs.Ruled.{formed, ended_by}
 use Rattle.risch_run.specs.Counted.{Counted, free, and_counted, one_unit, IsCountedResult}
 use Rattle.risch_run.proofs.CountedSteps.{end_passes, result_passes, value_goes_on, stop_ends}
 use Rattle.risch_tower.specs.declared.level.Level.{Level}
