@@ -19,20 +19,7 @@ use Rattle.risch_run.specs.Counted.{Counted, free, and_counted, one_unit}
 use Rattle.risch_residue_traces.specs.declared.traces.Traces.{Traces}
 use Rattle.risch_residue_traces.specs.declared.traces.Traces.TheVariants.{Constant, NotConstant}
 
-module _ (tower : List Level) (level : ℕ) where
-  -- ---- ρ
-  -- (a·i) rem d for the inverse i of Dd modulo d. The polynomials d and Dd are coprime, so that there is one; what stands for none only makes the definition whole
-  abbrev pub residue_by : List Element → List Element → Option (List Element) → Checked (List Element)
-  residue_by a d None = Ok []
-  residue_by a d (Some i) = and_then (poly.product element a i) (λ p. remainder p d)
-
-  -- (a·inv(Dd rem d, d)) rem d
-  unfoldable pub residue : List Element → List Element → Checked (List Element)
-  residue a d =
-      and_then (derive_polynomial element (derivative tower) (rate_at tower level) d) (λ derived.
-      and_then (remainder derived d) (λ e.
-      and_then (modular.inverse element e d) (residue_by a d)))
-
+module _ (tower : List Level) where
   -- ---- traces
   -- a trace p that is no fraction: the tower has more constants than the fractions where Dp = 0, and else the residues are not constant
   abbrev pub judged : ℕ → Element → Element → Ruled Traces
@@ -59,7 +46,21 @@ module _ (tower : List Level) (level : ℕ) where
       and_counted (free (formed (trace d rho))) (λ p.
       trace_then (λ more. traces_from d rho (length d - 2) more rho) [] 1 p (as_number 5 p)))
 
+module _ (tower : List Level) (level : ℕ) where
+  -- ---- ρ
+  -- (a·i) rem d for the inverse i of Dd modulo d. The polynomials d and Dd are coprime, so that there is one; what stands for none only makes the definition whole
+  abbrev pub residue_by : List Element → List Element → Option (List Element) → Checked (List Element)
+  residue_by a d None = Ok []
+  residue_by a d (Some i) = and_then (poly.product element a i) (λ p. remainder p d)
+
+  -- (a·inv(Dd rem d, d)) rem d
+  unfoldable pub residue : List Element → List Element → Checked (List Element)
+  residue a d =
+      and_then (derive_polynomial element (derivative tower) (rate_at tower level) d) (λ derived.
+      and_then (remainder derived d) (λ e.
+      and_then (modular.inverse element e d) (residue_by a d)))
+
   -- the power sums of the residues of h
   unfoldable pub residue_traces : Element → Counted Traces
   residue_traces h =
-      and_counted (free (formed (residue (numerator_at level h) (denominator_at level h)))) (traces_of (denominator_at level h))
+      and_counted (free (formed (residue (numerator_at level h) (denominator_at level h)))) (traces_of tower (denominator_at level h))

@@ -1,10 +1,12 @@
 -- What the power sums of the residues are.
-use Rattle.std.specs.Prelude.{◌≡◌, ℕ, suc, ◌-◌, List, length, map}
+use Rattle.std.specs.Prelude.{◌≡◌, ℕ, ◌-◌, List, length, map}
+use Rattle.risch_ring.specs.CommRing.{sub}
+use Rattle.risch_univariate.specs.Polynomial.{Polynomial}
 use Rattle.risch_univariate.specs.PolynomialRing.{polynomials}
 use Rattle.risch_univariate.specs.Division.{Divides}
 use Rattle.risch_mean.specs.Element as mean
 use Rattle.risch_mean.specs.ElementField.{elements}
-use Rattle.risch_mean.specs.Univariate.{monic_polynomial}
+use Rattle.risch_mean.specs.ElementPolynomials.{monic_polynomial}
 use Rattle.risch_mean.specs.Residues as residues
 use Rattle.risch_level.specs.Levels.{Element}
 use Rattle.risch_element_theory.specs.WholeTower.{meaning, polynomial, IsPolynomial, AllWithin}
@@ -32,6 +34,13 @@ pub record AreResidueTraces (tower : List Level) (level : ℕ) (h : Element) (tr
   pub are : ArePowerTraces (denominator_at level h) rho traces
   pub count : length traces ≡ length (denominator_at level h) - 1
   pub fractions : AllWithin 0 traces
+
+-- ρ = a·i modulo d, for an inverse i of Dd modulo d
+pub record IsResidueOf (tower : List Level) (level : ℕ) (a d rho : List Element) : Type 0 where
+  pub kept : IsPolynomial rho
+  pub inverse : Polynomial elements
+  pub is_inverse : Divides elements (polynomial d) (sub (polynomials elements) (inverse *ₚ (level_derivation (monomials tower) level).derive (polynomial d)) (polynomials elements).one)
+  pub residue : Divides elements (polynomial d) (sub (polynomials elements) (polynomial a *ₚ inverse) (polynomial rho))
 
 -- ---- of an answer
 -- where the traces are constant, the list has the property

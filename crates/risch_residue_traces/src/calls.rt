@@ -15,7 +15,7 @@ ghost use Rattle.risch_run.specs.Counted.{IsCountedRun};
 ghost use Rattle.risch_residue_traces.specs.ResidueTraces as spec;
 ghost use Rattle.risch_residue_traces.specs.TracesMeaning.{IfConstant, IfNotConstant, AreResidueTraces, AreNotConstant};
 
-use crate::traces::Traces;
+use crate::traces::{Traces, power_sums};
 use risch_elem::{Elem, Run, Units};
 use risch_run::answer;
 use risch_tower::Tower;
@@ -24,6 +24,7 @@ use std::alloc::Global;
 /// The sums of the powers 1 to m of the residues of an element h = a/d of a level with the variable t, m = deg d, where deg a < m, a is not 0, and d and Dd are coprime; or the first that is no fraction (Bronstein, section 5.6).
 ///
 /// Each power costs one unit. Stops: that of the first value that cannot be formed; `NotSound(p)` for a trace p that is no fraction and has Dp = 0; Budget exactly where the count of units stands at its most and a further power is due.
+#[tactic(auto, using(risch_run::proofs::RuledSteps::answers, risch_run::proofs::CountedSteps::answers))]
 pub fn residue_traces<U: Units>(
     alloc: Global,
     tower: &Tower,
@@ -45,5 +46,5 @@ pub fn residue_traces<U: Units>(
     ensures same_most { U.most units.new ≡ U.most units.old }
     ensures same_kept { U.kept units.new ≡ U.kept units.old }
 {
-    answer(traces(alloc, tower, level, h, units))
+    answer(power_sums(alloc, tower, level, h, units))
 }

@@ -7,6 +7,7 @@
 #![tactic(auto)]
 
 mod calls;
+mod residue;
 mod traces;
 
 pub use calls::residue_traces;
