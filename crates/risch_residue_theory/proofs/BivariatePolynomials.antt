@@ -32,7 +32,7 @@ module _ {A : Type 0} (F : Field A) where
 
   module _ {C : Type 0} (E : Field C) (f : RingMap F.ring E.ring) (α : C) where
     -- Σ c_i(α)·t^i
-    pub values_at : List (Polynomial F) → Polynomial E
+    unfoldable pub values_at : List (Polynomial F) → Polynomial E
     values_at cs = of_list E (map (at F E f α) cs)
 
     -- (Σ c_i(α)·t^i)_i = c_i(α)
