@@ -7,28 +7,24 @@ use Rattle.std.specs.Prelude.{◌≡◌, ℕ, zero, suc, List, [], ◌∷◌, ma
 use Rattle.std.proofs.Common.{refl, sym, ap, ◌∙◌}
 use Rattle.risch_ring.specs.CommRing.{Field, Derivation}
 use Rattle.risch_ring.proofs.Derivations.{derive-zero}
-use Rattle.risch_univariate.specs.Polynomial.{Polynomial, of_list, coefficient, constant}
+use Rattle.risch_univariate.specs.Polynomial.{Polynomial, of_list, coefficient}
 use Rattle.risch_univariate.specs.PolynomialLaws.{polynomial_ext, coefficient-of_list}
-use Rattle.risch_univariate.proofs.Evaluation as Evaluation
 use Rattle.risch_univariate.proofs.FormalDerivative.{coefficientwise, coefficient-coefficientwise}
-use Rattle.risch_fraction_field.specs.DifferentialField.{constant_fraction, constant_fraction-apply}
+use Rattle.risch_fraction_field.specs.DifferentialField.{constant_fraction}
 use Rattle.risch_fraction_field.specs.Fraction.{Fraction}
 use Rattle.risch_fraction_field.specs.FractionField.{fractions}
 use Rattle.risch_extension.specs.PolynomialMap.{map_polynomial}
 use Rattle.risch_extension.proofs.PolynomialMaps.{coefficient-map_polynomial}
 use Rattle.risch_residue_theory.specs.BivariatePolynomial.{lift as over_fractions}
 use Rattle.risch_residue_theory.specs.Logarithm.{∂}
-use Rattle.risch_mean.specs.Element.{variable}
 use Rattle.risch_mean.specs.ElementField.{elements}
-use Rattle.risch_mean.proofs.Subfield.{Subfield, inclusion}
+use Rattle.risch_mean.proofs.Subfield.{inclusion}
 use Rattle.risch_element_theory.proofs.DerivationTower.{derivation_in}
 use Rattle.risch_tower.specs.declared.level.Level.{Level}
 use Rattle.risch_tower.specs.TowerMeaning.{monomials}
 use Rattle.risch_monomial.specs.LevelDerivation.{IsLevelOf}
 use Rattle.risch_logarithm_theory.specs.FieldBelow.{below, included_polynomial, derivation_below, variable_derivative}
-use Rattle.risch_logarithm_theory.proofs.FieldBelow.{evaluation_below, evaluation_below-derive}
-use Rattle.risch_logarithm_theory.proofs.FractionEvaluation.{evaluation-polynomial}
-use Rattle.risch_logarithm_theory.proofs.TranscendenceBelow.{variable_transcendental}
+use Rattle.risch_logarithm_theory.proofs.FieldBelow.{evaluation_below, evaluation_below-constant, evaluation_below-derive}
 
 -- D on the coefficients of the polynomial of a list
 item-derive : {A : Type 0} (F : Field A) (D : Derivation F.ring) (cs : List A) (k : ℕ) → D.derive (get_or cs k F.zero) ≡ get_or (map D.derive cs) k F.zero
@@ -51,19 +47,12 @@ module _ (level : ℕ) where
   pub coefficient-evaluated : (p : Polynomial (fractions (below level))) (k : ℕ) → coefficient elements (evaluated p) k ≡ (evaluation_below level).apply (coefficient (fractions (below level)) p k)
   coefficient-evaluated = coefficient-map_polynomial Q elements (evaluation_below level)
 
-  -- a in K is mapped to a
-  pub evaluation_below-constant : (a : Subfield level) → (evaluation_below level).apply ((constant_fraction (below level)).apply a) ≡ (inclusion level).apply a
-  evaluation_below-constant a =
-      ap (evaluation_below level).apply (constant_fraction-apply (below level) a)
-      ∙ evaluation-polynomial (below level) elements (inclusion level) (variable level) (variable_transcendental level) (constant (below level) a)
-      ∙ Evaluation.value-constant (below level) elements.ring (inclusion level) (variable level) a
-
   -- on polynomials over K it is the inclusion
   pub evaluated-lift : (p : Polynomial (below level)) → evaluated (over_fractions (below level) p) ≡ included_polynomial level p
   evaluated-lift p = polynomial_ext elements (evaluated (over_fractions (below level) p)) (included_polynomial level p) (λ k.
       coefficient-evaluated (over_fractions (below level) p) k
       ∙ ap (evaluation_below level).apply (coefficient-map_polynomial (below level) Q (constant_fraction (below level)) p k)
-      ∙ evaluation_below-constant (coefficient (below level) p k) ∙ sym (coefficient-map_polynomial (below level) elements (inclusion level) p k))
+      ∙ evaluation_below-constant level (coefficient (below level) p k) ∙ sym (coefficient-map_polynomial (below level) elements (inclusion level) p k))
 
   module _ (tower : List Level) (l : IsLevelOf tower level) where
     -- D on the coefficients

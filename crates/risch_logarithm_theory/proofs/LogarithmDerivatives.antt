@@ -54,9 +54,9 @@ use Rattle.risch_rootsum.specs.declared.integral.LogPart.{LogPart}
 use Rattle.risch_rootsum.proofs.AlgebraRules.{some-below, length-below}
 use Rattle.risch_rootsum.proofs.Invertibles as Invertibles
 use Rattle.risch_logarithm_theory.specs.FieldBelow.{below, included_polynomial, derivation_below, variable_derivative}
-use Rattle.risch_logarithm_theory.specs.LogarithmElements.{IsLogarithmOf, AreLogarithmsOf, IsNormalPart, HaveDerivatives}
-use Rattle.risch_logarithm_theory.proofs.EvaluatedPolynomials.{evaluated, coefficient-evaluated, evaluated-lift, evaluated-coefficientwise, coefficientwise-of_list, evaluation_below-constant}
-use Rattle.risch_logarithm_theory.proofs.FieldBelow.{evaluation_below, evaluation_below-value, evaluation_below-derive}
+use Rattle.risch_logarithm_theory.specs.LogarithmElements.{StandsForLogarithm, StandForLogarithms, IsNormalPart, HaveDerivatives}
+use Rattle.risch_logarithm_theory.proofs.EvaluatedPolynomials.{evaluated, coefficient-evaluated, evaluated-lift, evaluated-coefficientwise, coefficientwise-of_list}
+use Rattle.risch_logarithm_theory.proofs.FieldBelow.{evaluation_below, evaluation_below-constant, evaluation_below-value, evaluation_below-derive}
 use Rattle.risch_logarithm_theory.proofs.LogarithmParts.{polynomial-R, rational-R, degree-not_linear, length-linear, linear-R, rational-factor, separable-R, all-lie, argument-lies}
 use Rattle.risch_logarithm_theory.proofs.MappedPolynomials as Mapped
 use Rattle.risch_logarithm_theory.proofs.TracesByLists.{remainder_of-variable_mul, trace-by_list}
@@ -71,7 +71,7 @@ module _ (tower : List Level) (level : ℕ) (l : IsLevelOf tower level) where
   abbrev ev : Fraction (below level) → mean.Element
   ev = (evaluation_below level).apply
 
-  module _ (part : LogPart) (r : RuleLogarithm (below level)) (stands : IsLogarithmOf level part r) (known : IsLogPart (level + 1) part) (normal : IsNormalPart part)
+  module _ (part : LogPart) (r : RuleLogarithm (below level)) (stands : StandsForLogarithm level part r) (known : IsLogPart (level + 1) part) (normal : IsNormalPart part)
       (separable : IsCoprime (below level) r.modulus (formal_derivative (below level) r.modulus)) where
     abbrev rs : List mean.Element
     rs = coefficients_below part.poly
@@ -252,43 +252,43 @@ module _ (tower : List Level) (level : ℕ) (l : IsLevelOf tower level) where
   sums_by t part parts = map sum_of (cond (not t) (part ∷ filter (λ p. not (is_linear p)) parts) (filter (λ p. not (is_linear p)) parts))
 
   record HaveBy (t : Bool) (part : LogPart) (parts : List LogPart) (f : mean.Element) : Type 0 where
-    logarithms : mean.Element
-    logarithms_are : SumOf (LogDerivative (monomials tower)) (logarithms_by t part parts) logarithms
+    plain : mean.Element
+    plain_are : SumOf (LogDerivative (monomials tower)) (logarithms_by t part parts) plain
     sums : mean.Element
     sums_are : SumOf (SumDerivative (monomials tower)) (sums_by t part parts) sums
-    total : logarithms +ₑ sums ≡ f
+    total : plain +ₑ sums ≡ f
 
   have_by : (t : Bool) (part : LogPart) (parts : List LogPart) (g f : mean.Element) → is_linear part ≡ t → IsPartDerivative (monomials tower) part g → HaveDerivatives (monomials tower) parts f
       → HaveBy t part parts (g +ₑ f)
   have_by true part parts g f e p h = record {
-    logarithms = g +ₑ h.logarithms;
-    logarithms_are = (g, h.logarithms, p.of_logarithm e, h.logarithms_are, refl);
+    plain = g +ₑ h.plain;
+    plain_are = (g, h.plain, p.of_logarithm e, h.plain_are, refl);
     sums = h.sums;
     sums_are = h.sums_are;
-    total = elements.ring.add_assoc g h.logarithms h.sums ∙ ap (mean.add g) h.total;
+    total = elements.ring.add_assoc g h.plain h.sums ∙ ap (mean.add g) h.total;
   }
   have_by false part parts g f e p h = record {
-    logarithms = h.logarithms;
-    logarithms_are = h.logarithms_are;
+    plain = h.plain;
+    plain_are = h.plain_are;
     sums = g +ₑ h.sums;
     sums_are = (g, h.sums, p.of_sum e, h.sums_are, refl);
-    total = Laws.add_left_comm elements.ring h.logarithms g h.sums ∙ ap (mean.add g) h.total;
+    total = Laws.add_left_comm elements.ring h.plain g h.sums ∙ ap (mean.add g) h.total;
   }
 
   have_more : (part : LogPart) (parts : List LogPart) (g f : mean.Element) → IsPartDerivative (monomials tower) part g → HaveDerivatives (monomials tower) parts f → HaveDerivatives (monomials tower) (part ∷ parts) (g +ₑ f)
   have_more part parts g f p h =
       let both = have_by (is_linear part) part parts g f refl p h in
-      record { logarithms = both.logarithms; logarithms_are = both.logarithms_are; sums = both.sums; sums_are = both.sums_are; total = both.total }
+      record { plain = both.plain; plain_are = both.plain_are; sums = both.sums; sums_are = both.sums_are; total = both.total }
 
   -- R is coprime to R'
   abbrev pub IsSeparable : RuleLogarithm (below level) → Type 0
   IsSeparable r = IsCoprime (below level) r.modulus (formal_derivative (below level) r.modulus)
 
-  have_sum : (parts : List LogPart) (rules : List (RuleLogarithm (below level))) (fs : List (Fraction (below level))) → AreLogarithmsOf level parts rules → Each (IsLogPart (level + 1)) parts
+  have_sum : (parts : List LogPart) (rules : List (RuleLogarithm (below level))) (fs : List (Fraction (below level))) → StandForLogarithms level parts rules → Each (IsLogPart (level + 1)) parts
       → Each IsNormalPart parts → Each IsSeparable rules → AreRuleDerivatives (below level) (derivation_below tower level l) (variable_derivative tower level l) rules fs
       → HaveDerivatives (monomials tower) parts (ev (sum_over Q.ring (λ f. f) fs))
   unfolding sum_over
-  have_sum [] [] [] are known normal separable has = record { logarithms = mean.zero; logarithms_are = refl; sums = mean.zero; sums_are = refl; total = elements.ring.add-zero mean.zero ∙ sym (RingMaps.apply-zero (evaluation_below level)) }
+  have_sum [] [] [] are known normal separable has = record { plain = mean.zero; plain_are = refl; sums = mean.zero; sums_are = refl; total = elements.ring.add-zero mean.zero ∙ sym (RingMaps.apply-zero (evaluation_below level)) }
   have_sum [] [] (f ∷ fs) are known normal separable has = absurd has
   have_sum [] (r ∷ rules) fs are known normal separable has = absurd are
   have_sum (part ∷ parts) [] fs are known normal separable has = absurd are
@@ -299,7 +299,7 @@ module _ (tower : List Level) (level : ℕ) (l : IsLevelOf tower level) where
       (have_sum parts rules fs are.1 known.1 normal.1 separable.1 has.1))
 
   -- the derivatives of the logarithms and of the sums over roots add up to h(t), where those in K(t) add up to h
-  pub logarithms_derivative : (parts : List LogPart) (rules : List (RuleLogarithm (below level))) → AreLogarithmsOf level parts rules → Each (IsLogPart (level + 1)) parts → Each IsNormalPart parts
+  pub logarithms_derivative : (parts : List LogPart) (rules : List (RuleLogarithm (below level))) → StandForLogarithms level parts rules → Each (IsLogPart (level + 1)) parts → Each IsNormalPart parts
       → Each IsSeparable rules → (h : Fraction (below level)) → HaveDerivative (below level) (derivation_below tower level l) (variable_derivative tower level l) rules h
       → HaveDerivatives (monomials tower) parts ((evaluation_below level).apply h)
   logarithms_derivative parts rules are known normal separable h has =

@@ -22,17 +22,17 @@ use Rattle.risch_rootsum.specs.declared.integral.LogPart.{LogPart}
 use Rattle.risch_logarithm_theory.specs.FieldBelow.{below, included_polynomial, value_below}
 
 -- l stands for the sum over the roots z of R of z·log S(z): its R is that of r, and the coefficient of its S at z^k is the value at t of that of S, ordered by powers of z; where R = z - c, its U is the value at t of S(c)
-pub record IsLogarithmOf (level : ℕ) (l : LogPart) (r : RuleLogarithm (below level)) : Type 0 where
+pub record StandsForLogarithm (level : ℕ) (l : LogPart) (r : RuleLogarithm (below level)) : Type 0 where
   pub same_modulus : included_polynomial level r.modulus ≡ polynomial (modulus l.poly)
   pub of_sum : is_linear l ≡ false → (k : ℕ) → meaning (poly.coefficient element l.arg k) ≡ value_below level (coefficient (fractions (below level)) (by_powers (below level) r.argument) k)
   pub of_logarithm : is_linear l ≡ true → (c : Subfield level) → r.modulus ≡ linear (below level) c → meaning (argument l) ≡ value_below level (at_point (below level) c r.argument)
 
 -- the logarithms stand for these, one by one in this order
-abbrev pub AreLogarithmsOf : (level : ℕ) → List LogPart → List (RuleLogarithm (below level)) → Type 0
-AreLogarithmsOf level [] [] = Unit
-AreLogarithmsOf level [] (r ∷ rs) = ⊥
-AreLogarithmsOf level (l ∷ ls) [] = ⊥
-AreLogarithmsOf level (l ∷ ls) (r ∷ rs) = IsLogarithmOf level l r × AreLogarithmsOf level ls rs
+abbrev pub StandForLogarithms : (level : ℕ) → List LogPart → List (RuleLogarithm (below level)) → Type 0
+StandForLogarithms level [] [] = Unit
+StandForLogarithms level [] (r ∷ rs) = ⊥
+StandForLogarithms level (l ∷ ls) [] = ⊥
+StandForLogarithms level (l ∷ ls) (r ∷ rs) = StandsForLogarithm level l r × StandForLogarithms level ls rs
 
 -- the coefficients of R are fractions in lowest terms, and those of S elements in normal form
 pub record IsNormalPart (l : LogPart) : Type 0 where
@@ -41,8 +41,8 @@ pub record IsNormalPart (l : LogPart) : Type 0 where
 
 -- the logarithms and the sums over roots have derivatives, and these add up to f
 pub record HaveDerivatives (tower : Tower) (logs : List LogPart) (f : mean.Element) : Type 0 where
-  pub logarithms : mean.Element
-  pub logarithms_are : SumOf (LogDerivative tower) (logarithms_of logs) logarithms
+  pub plain : mean.Element
+  pub plain_are : SumOf (LogDerivative tower) (logarithms_of logs) plain
   pub sums : mean.Element
   pub sums_are : SumOf (SumDerivative tower) (sums_of logs) sums
-  pub total : logarithms +ₑ sums ≡ f
+  pub total : plain +ₑ sums ≡ f
