@@ -6,3 +6,4 @@ pub mod TracesByLists
 pub mod EvaluatedPolynomials
 pub mod LogarithmParts
 pub mod LogarithmDerivatives
+pub mod LogarithmArguments

@@ -83,8 +83,9 @@ module _ (tower : List Level) (level : ℕ) (l : IsLevelOf tower level) where
     same_modulus : included_polynomial level r.modulus ≡ modulus_of elements rs
     same_modulus = stands.same_modulus ∙ polynomial-R part.poly known.modulus normal.lowest
 
-    height : level + 1 ≤ suc (length (monomials tower))
-    height = let there = l.there in omega (arith, there, length-monomials tower)
+    -- the variables of the level are among those of the tower
+    variables_there : level + 1 ≤ suc (length (monomials tower))
+    variables_there = let there = l.there in omega (arith, there, length-monomials tower)
 
     -- ---- the sum over the roots
     abbrev S : Polynomial (fractions (below level))
@@ -157,11 +158,10 @@ module _ (tower : List Level) (level : ℕ) (l : IsLevelOf tower level) where
 
       modulus-nonzero : ¬ (P ≡ (polynomials Q).zero)
       modulus-nonzero z =
-          let s = Remainders.size-modulus elements rs in
-          modulus_nonzero (sym evaluated-modulus ∙ ap (evaluated level) z ∙ Maps.map_polynomial-zero Q elements (evaluation_below level))
+          monic-nonzero (sym evaluated-modulus ∙ ap (evaluated level) z ∙ Maps.map_polynomial-zero Q elements (evaluation_below level))
         where
-          modulus_nonzero : ¬ (modulus_of elements rs ≡ (polynomials elements).zero)
-          modulus_nonzero = Degree.nonzero_of_size elements (modulus_of elements rs) (omega (arith, Remainders.size-modulus elements rs))
+          monic-nonzero : ¬ (modulus_of elements rs ≡ (polynomials elements).zero)
+          monic-nonzero = Degree.nonzero_of_size elements (modulus_of elements rs) (omega (arith, Remainders.size-modulus elements rs))
 
       trace-is : ev f ≡ trace_modulo rs (z_times_modulo rs (times_modulo rs derived inverse))
       trace-is =
@@ -183,7 +183,7 @@ module _ (tower : List Level) (level : ℕ) (l : IsLevelOf tower level) where
                 separable-R part.poly known.modulus (included_polynomial level r.modulus) same_modulus
                 (subst (IsCoprime elements (included_polynomial level r.modulus)) (map-formal_derivative K elements (inclusion level) r.modulus)
                 (map-coprime K elements (inclusion level) r.modulus (formal_derivative K r.modulus) separable));
-            in_tower = all-lie (level + 1) (suc (length (monomials tower))) height part.arg normal.normal known.argument_within;
+            in_tower = all-lie (level + 1) (suc (length (monomials tower))) variables_there part.arg normal.normal known.argument_within;
             inner_degree = omega (arith, member, length-map part.arg meaning, length-below part.poly);
             inverse = inverse;
             is_inverse = is_inverse;
@@ -230,7 +230,7 @@ module _ (tower : List Level) (level : ℕ) (l : IsLevelOf tower level) where
           let E = evaluation_below level in
           record {
             rational = rational-factor part normal.lowest;
-            in_tower = argument-lies (level + 1) (suc (length (monomials tower))) height part normal.normal known.argument_within;
+            in_tower = argument-lies (level + 1) (suc (length (monomials tower))) variables_there part normal.normal known.argument_within;
             argument-ne-zero = λ z. RingMaps.apply-nonzero Q elements E U h.0 (argument-is ∙ z);
             is =
                 ap ev h.1 ∙ E.apply-mul ((constant_fraction K).apply root) (logarithmic_derivative Q D U)

@@ -109,7 +109,4 @@ all-lie n m le (c ∷ s) all within = (InField_more n m (meaning c) le (element-
 -- so does U
 pub argument-lies : (n m : ℕ) → n ≤ m → (l : LogPart) → AllValid IsElement l.arg → AllWithin n l.arg → InField m (meaning (argument l))
 argument-lies n m le l all within =
-    InField_more n m (meaning (argument l)) le (element-lies n (argument l) (Values.coefficient-valid element_interprets l.arg 0 all) (Properties.coefficient-keeps (within-closed n) l.arg 0 (each l.arg within)))
-  where
-    each : (s : List Element) → AllWithin n s → AllWithin n s
-    each s w = w
+    InField_more n m (meaning (argument l)) le (element-lies n (argument l) (Values.coefficient-valid element_interprets l.arg 0 all) (Properties.coefficient-keeps (within-closed n) l.arg 0 within))

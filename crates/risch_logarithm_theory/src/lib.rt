@@ -10,6 +10,7 @@
 //! p/q ↦ p(t)/q(t) is an injective homomorphism from K(t) to the elements, which commutes with the derivations, and its values lie in the field of the level
 //! (`evaluation_below-polynomial`, `evaluation_below-injective`, `evaluation_below-derive`, `evaluation_below-lies`).
 //! The same holds of any homomorphism of fields and any transcendental element (MappedPolynomials, FractionEvaluation). The trace modulo a polynomial by lists of coefficients is that by polynomials (`trace-by_list` in TracesByLists).
+//! For S in K[z][t] by its coefficients c_0, c_1, .. in K[z], the values at t of its coefficients by powers of z and of S(c) are Σ (c_i)_k·t^i and Σ c_i(c)·t^i (`value-coefficient`, `value-at_point` in LogarithmArguments).
 //!
 //! Not proved here: that the rule of the logarithms gives lists of coefficients that stand for logarithms by residues.
 #![tactic(auto)]
