@@ -1,7 +1,7 @@
 -- The lines of a problem are read in the same way where a certificate follows the file, but for places.
 use Rattle.std.specs.Prelude.{◌==◌, cond, option_map, map, codes}
 use Rattle.std.specs.Option.{option_map_or}
-use Rattle.std.proofs.Common.{◌≡◌, ℕ, zero, suc, ◌+◌, List, [], ◌∷◌, ◌++◌, length, Bool, true, false, Option, None, Some, Ok, Err, refl, sym, ap, ap₂, subst, ◌∙◌, arith, ne_eqb}
+use Rattle.std.proofs.Common.{◌≡◌, ℕ, zero, suc, ◌+◌, ◌≤◌, List, [], ◌∷◌, ◌++◌, length, Bool, true, false, Option, None, Some, Ok, Err, refl, sym, ap, ap₂, subst, ◌∙◌, arith, ne_eqb}
 use Rattle.std.proofs.lemmas.List.{length-map, map-append}
 use Rattle.risch_expression.specs.Words.{after_word}
 use Rattle.risch_expression.specs.Results.{and_next}
@@ -40,16 +40,16 @@ one_more-same : (ls ms : List TowerLine) (a b : TowerLine) → SameLines ls ms �
 one_more-same ls ms a b e f = map-append unplaced_line ls (a ∷ []) ∙ ap₂ (λ ks k. ks ++ k ∷ []) e f ∙ sym (map-append unplaced_line ms (b ∷ []))
 
 -- ---- the first word of a line
--- The certificate behind the file begins with the letter i, so that no word that begins otherwise stands where the file ends.
-module _ (all : ℕ) (behind : List ℕ) where
+-- The certificate behind the file begins with a letter other than t, so that no word that begins otherwise stands where the file ends.
+module _ (all letter : ℕ) (dark : 33 ≤ letter) (no_comment : (letter == 35) ≡ false) (no_t : (letter == 116) ≡ false) (behind : List ℕ) where
   abbrev more : List ℕ
-  more = 105 ∷ behind
+  more = letter ∷ behind
 
   no_word : (w : ℕ) (ws : List ℕ) (old : Front) → old.rest ≡ [] → after_word (w ∷ ws) old.rest ≡ None
   unfolding after_word
   no_word w ws old e = ap (after_word (w ∷ ws)) e
 
-  other_word : (w : ℕ) (ws bytes : List ℕ) → (105 == w) ≡ false → after_word (w ∷ ws) (105 ∷ bytes) ≡ None
+  other_word : (w : ℕ) (ws bytes : List ℕ) → (letter == w) ≡ false → after_word (w ∷ ws) (letter ∷ bytes) ≡ None
   unfolding after_word
   other_word w ws bytes h = ap (λ (t : Bool). cond t (after_word ws bytes) None) h
 
@@ -64,7 +64,7 @@ module _ (all : ℕ) (behind : List ℕ) where
           ends : EndsLine (b ∷ bs) → EndsLine old.rest
           ends h = subst EndsLine (sym e) h
 
-  first_word_found : (w : ℕ) (ws : List ℕ) (old new : Front) → (105 == w) ≡ false → IsInside (w ∷ ws) → AtLine all more old new →
+  first_word_found : (w : ℕ) (ws : List ℕ) (old new : Front) → (letter == w) ≡ false → IsInside (w ∷ ws) → AtLine all more old new →
       FoundIn (InLine all more) (behind_word (w ∷ ws) old) (behind_word (w ∷ ws) new)
   unfolding behind_word
   first_word_found w ws old new other inside l =
@@ -120,7 +120,7 @@ module _ (all : ℕ) (behind : List ℕ) where
           (value-follows (Inside Equal) (reached false front) (reached false f.0) (record { value = refl; front = f.2 }))
 
   first : IsFirst more
-  first = (omega arith, refl)
+  first = (dark, no_comment)
 
   line-same : (a b : Bool) (s t : Tree) (left other : ℕ) → a ≡ b → SameTrees s t →
       SameLine (record { exponential = a; argument = s; left = left }) (record { exponential = b; argument = t; left = other })
@@ -145,7 +145,7 @@ module _ (all : ℕ) (behind : List ℕ) where
       subst (λ m. Follows (Ended SameLines) (tower_lines_from (tower_lines n) lines old (behind_word (monomial_name (length lines)) old)) (tower_lines_from (tower_lines n) lines' new (behind_word (monomial_name m) new)))
       (same-length lines lines' e)
       (by_found (λ a b f g s t. tower_lines-follow n a b f g s t) (behind_word (monomial_name (length lines)) old) (behind_word (monomial_name (length lines)) new)
-      (first_word_found 116 ((49 + length lines) ∷ []) old new refl (refl, (ne_eqb 10 (49 + length lines) (λ z. omega arith), tt)) l))
+      (first_word_found 116 ((49 + length lines) ∷ []) old new no_t (refl, (ne_eqb 10 (49 + length lines) (λ z. omega arith), tt)) l))
     where
       by_found : ((a b : List TowerLine) (f g : Front) → SameLines a b → AtLine all more f g → Follows (Ended SameLines) (tower_lines n a f) (tower_lines n b g)) →
           (found other : Option Front) → FoundIn (InLine all more) found other →
@@ -190,29 +190,28 @@ pub record ReadBehind (bytes more : List ℕ) (tree : ProblemTree) : Type 0 wher
   pub rest : front.rest ≡ more
   pub line : front.line ≡ 1 + ended_lines bytes
 
-pub problem_behind : (bytes behind : List ℕ) (tree : ProblemTree) → EndsLine bytes → whole_problem bytes ≡ Ok tree → ReadBehind bytes (105 ∷ behind) tree
-unfolding whole_problem nothing
-problem_behind bytes behind tree ends h = by_problem (problem_lines (from_line 1 bytes)) refl h
-  where
-    all : ℕ
-    all = 1 + ended_lines bytes
+module _ (letter : ℕ) (dark : 33 ≤ letter) (no_comment : (letter == 35) ≡ false) (no_t : (letter == 116) ≡ false) where
+  pub problem_behind : (bytes behind : List ℕ) (tree : ProblemTree) → EndsLine bytes → whole_problem bytes ≡ Ok tree → ReadBehind bytes (letter ∷ behind) tree
+  unfolding whole_problem nothing
+  problem_behind bytes behind tree ends h = by_problem (problem_lines (from_line 1 bytes)) refl h
+    where
+      by_rest : (r : Reached ProblemTree) (rest : List ℕ) → problem_lines (from_line 1 bytes) ≡ Ok r → r.front.rest ≡ rest → and_next (nothing_by r.front rest) (λ end. Ok r.value) ≡ Ok tree →
+          ReadBehind bytes (letter ∷ behind) tree
+      by_rest r (b ∷ bs) e f k = absurd (cc)
+      by_rest r [] e f k =
+          let is : r.value ≡ tree = cc in
+          let q = problem-follows (1 + ended_lines bytes) letter dark no_comment no_t behind (from_line 1 bytes) (from_line 1 (bytes ++ (letter ∷ behind)))
+          (file-further (letter ∷ behind) (dark, no_comment) bytes ends) r e in
+          let last : r.front.line + 0 ≡ 1 + ended_lines bytes = subst (λ t. r.front.line + ended_lines t ≡ 1 + ended_lines bytes) f q.related.front.further.numbered in
+          record {
+            other = q.value.value;
+            front = q.value.front;
+            is = q.is;
+            same = ap unplaced_problem (sym is) ∙ q.related.value;
+            rest = q.related.front.further.rest ∙ ap (λ t. t ++ (letter ∷ behind)) f;
+            line = q.related.front.further.line ∙ omega (arith, last);
+          }
 
-    by_rest : (r : Reached ProblemTree) (rest : List ℕ) → problem_lines (from_line 1 bytes) ≡ Ok r → r.front.rest ≡ rest → and_next (nothing_by r.front rest) (λ end. Ok r.value) ≡ Ok tree →
-        ReadBehind bytes (105 ∷ behind) tree
-    by_rest r (b ∷ bs) e f k = absurd (cc)
-    by_rest r [] e f k =
-        let is : r.value ≡ tree = cc in
-        let q = problem-follows (1 + ended_lines bytes) behind (from_line 1 bytes) (from_line 1 (bytes ++ (105 ∷ behind))) (file-further (105 ∷ behind) (omega arith, refl) bytes ends) r e in
-        let last : r.front.line + 0 ≡ 1 + ended_lines bytes = subst (λ t. r.front.line + ended_lines t ≡ 1 + ended_lines bytes) f q.related.front.further.numbered in
-        record {
-          other = q.value.value;
-          front = q.value.front;
-          is = q.is;
-          same = ap unplaced_problem (sym is) ∙ q.related.value;
-          rest = q.related.front.further.rest ∙ ap (λ t. t ++ (105 ∷ behind)) f;
-          line = q.related.front.further.line ∙ omega (arith, last);
-        }
-
-    by_problem : (value : Read (Reached ProblemTree)) → problem_lines (from_line 1 bytes) ≡ value → and_next value finished ≡ Ok tree → ReadBehind bytes (105 ∷ behind) tree
-    by_problem (Err fault) e k = absurd (cc)
-    by_problem (Ok r) e k = by_rest r r.front.rest e refl k
+      by_problem : (value : Read (Reached ProblemTree)) → problem_lines (from_line 1 bytes) ≡ value → and_next value finished ≡ Ok tree → ReadBehind bytes (letter ∷ behind) tree
+      by_problem (Err fault) e k = absurd (cc)
+      by_problem (Ok r) e k = by_rest r r.front.rest e refl k

@@ -18,6 +18,7 @@ pub mod ProblemValues
 pub mod PrintedLines
 pub mod ReadLines
 pub mod ReadLogarithms
+pub mod ReadEnds
 pub mod ReadAnswers
 pub mod RoundTrip
 pub mod Forms

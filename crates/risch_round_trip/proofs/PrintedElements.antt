@@ -119,7 +119,7 @@ value-lies t h (c ∷ p) valid =
     InField-add 5 (meaning c) (mean.mul t (value_of p t)) (element-lies 5 c valid.0 (element-within 5 (omega arith) c)) (InField-mul 5 t (value_of p t) h (value-lies t h p valid.1))
 
 -- ---- names
-or_digit : (b : ℕ) → is_digit b ≡ true → is_letter_or_digit b ≡ true
+pub or_digit : (b : ℕ) → is_digit b ≡ true → is_letter_or_digit b ≡ true
 or_digit b h = either (is_letter b) (is_digit b) h
   where
     either : (l d : Bool) → d ≡ true → (l || d) ≡ true
@@ -139,7 +139,7 @@ module _ (names : Names) where
   unfolding named
   z-known h = rw h refl
 
-  t-found : (l : ℕ) → 1 ≤ l → l ≤ 4 → l ≤ names.monomials → variable_named names.monomials (116 ∷ ((48 + l) ∷ [])) ≡ Some l
+  pub t-found : (l : ℕ) → 1 ≤ l → l ≤ 4 → l ≤ names.monomials → variable_named names.monomials (116 ∷ ((48 + l) ∷ [])) ≡ Some l
   t-found l some low known =
       let same : 48 + l - 48 ≡ l = omega arith in
       let least : nat_le 49 (48 + l) ≡ true = le-leb 49 (48 + l) (omega arith) in

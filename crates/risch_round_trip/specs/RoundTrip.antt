@@ -1,7 +1,8 @@
 -- What is printed of a certificate, behind the file of a problem, is read as the same certificate of the same problem.
-use Rattle.std.specs.Prelude.{◌≡◌, ℕ, suc, ◌+◌, ◌<◌, ◌==◌, if◌then◌else◌, List, [], ◌∷◌, ◌++◌, length, All}
+use Rattle.std.specs.Prelude.{◌≡◌, ℕ, suc, ◌+◌, ◌<◌, ◌≤◌, ◌==◌, if◌then◌else◌, List, [], ◌∷◌, ◌++◌, length, All}
 use Rattle.std.specs.List.{range_with_len}
 use Rattle.risch_frac.specs.Fraction.{IsLowest}
+use Rattle.risch_level.specs.Levels.{Element}
 use Rattle.risch_element_theory.specs.WholeTower.{IsElement, IsPolynomial, Within, AllWithin}
 use Rattle.risch_elem.specs.declared.units.Stop.{Stop}
 use Rattle.risch_elem.specs.declared.units.Stop.TheVariants as stops
@@ -10,8 +11,11 @@ use Rattle.risch_rootsum.specs.declared.integral.LogPart.{LogPart}
 use Rattle.risch_rootsum.specs.declared.integral.Integral as rootsum
 use Rattle.risch_cert.specs.Answers.{print_certificate}
 use Rattle.risch_cert.specs.declared.answer.Certificate.{Certificate}
-use Rattle.risch_cert.specs.declared.answer.Certificate.TheVariants.{Integral as Certified}
-use Rattle.risch_text.specs.Problem.{ProblemValue, CertifiedValue, IsIntegralForm, line_count}
+use Rattle.risch_cert.specs.declared.answer.Certificate.TheVariants.{Integral as Certified, Refuted}
+use Rattle.risch_cert.specs.declared.chain.Chain.{Chain}
+use Rattle.risch_cert.specs.declared.chain.End.{End}
+use Rattle.risch_cert.specs.declared.chain.End.TheVariants.{Residue}
+use Rattle.risch_text.specs.Problem.{ProblemValue, CertifiedValue, IsIntegralForm, IsChainForm, line_count}
 use Rattle.risch_text.specs.Read.{read_problem}
 use Rattle.risch_text.specs.ReadCertified.{read_certified}
 use Rattle.risch_text.specs.declared.problem.ReadProblem.TheVariants as problems
@@ -46,13 +50,41 @@ pub record IsPrintableIntegral (n : ℕ) (it : rootsum.Integral) : Type 0 where
   pub part_within : Within n it.part
   pub logs : All (IsPrintable n) it.logs
 
+-- the trace is an element in normal form over the first n variables, and the power has 16 bits
+pub record IsPrintableResidue (n power : ℕ) (trace : Element) : Type 0 where
+  pub small : power ≤ 65535
+  pub trace_kept : IsElement trace
+  pub trace_within : Within n trace
+
+abbrev pub IsPrintableEnd : ℕ → End → Type 0
+IsPrintableEnd n (Residue power trace) = IsPrintableResidue n power trace
+
+-- and so is the rest; the level is that of one of these variables
+pub record IsPrintableChain (n : ℕ) (chain : Chain) : Type 0 where
+  pub partial : IsPrintableIntegral n chain.partial
+  pub rest : IsElement chain.rest
+  pub rest_within : Within n chain.rest
+  pub level_low : chain.level < n
+  pub end : IsPrintableEnd n chain.end
+
 abbrev pub IsOverTower : ℕ → Certificate → Type 0
 IsOverTower n (Certified it) = IsPrintableIntegral n it
+IsOverTower n (Refuted chain) = IsPrintableChain n chain
 
 -- A certificate of the form that `risch_text` keeps is one, where its part and its fractions are in normal form.
 abbrev pub form_is_printable : Type 0
 form_is_printable =
     (n : ℕ) (it : rootsum.Integral) → IsIntegralForm n it → IsElement it.part → All (λ (l : LogPart). All IsLowest l.poly) it.logs → IsPrintableIntegral n it
+
+-- the trace of an end is in normal form
+abbrev pub IsEndKept : End → Type 0
+IsEndKept (Residue power trace) = IsElement trace
+
+-- The same of a refutation, where its rest and its trace are in normal form too.
+abbrev pub chain_form_is_printable : Type 0
+chain_form_is_printable =
+    (n : ℕ) (chain : Chain) → IsChainForm n chain → IsElement chain.partial.part → All (λ (l : LogPart). All IsLowest l.poly) chain.partial.logs → IsElement chain.rest → IsEndKept chain.end →
+    IsPrintableChain n chain
 
 -- ---- what is read
 -- a number overflows, or a size is met
@@ -77,7 +109,7 @@ abbrev pub certified_behind : List ℕ → ProblemValue → Certificate → Cert
 certified_behind bytes problem certificate =
     record { problem = problem; certificate = certificate; lines = range_with_len (ended_lines bytes + 1) (line_count certificate) }
 
--- A file is read as a problem, and its last line is ended. With the printed certificate of an integral over the tower of that problem behind it, it is read as the problem with the certificate,
+-- A file is read as a problem, and its last line is ended. With a printed certificate over the tower of that problem behind it, it is read as the problem with the certificate,
 -- or the reading stops, since some value cannot be formed again.
 abbrev pub printed_is_read : Type 0
 printed_is_read =
