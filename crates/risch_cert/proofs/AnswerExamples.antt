@@ -8,9 +8,10 @@ use Rattle.risch_elem.specs.declared.units.Stop.TheVariants.{Overflow, Size, Cas
 use Rattle.risch_elem.specs.declared.units.Case.TheVariants.{RootBound, Undetermined}
 use Rattle.risch_cert.specs.declared.answer.Place.TheVariants.{Reading, Preparing, Branch, Gathering, Checking, Solving}
 use Rattle.risch_cert.specs.declared.answer.Certificate.TheVariants.{Integral}
-use Rattle.risch_cert.specs.declared.answer.Answer.TheVariants.{Stopped, Disagree}
+use Rattle.risch_cert.specs.declared.answer.Answer.TheVariants.{Refuted, Stopped, Disagree}
+use Rattle.risch_cert.specs.declared.chain.End.TheVariants.{Residue}
 use Rattle.risch_cert.specs.Printing.{print_fraction, variable_name, print_factor, print_polynomial, print_ratio, print_below, print_element, print_in_z, print_fractions_in_z}
-use Rattle.risch_cert.specs.Answers.{print_logarithm, print_root_sum, print_log_part, print_integral, print_certificate, print_stop, print_place, print_halt, print_disagreement, print_answer}
+use Rattle.risch_cert.specs.Answers.{print_logarithm, print_root_sum, print_log_part, print_integral, print_rest, print_residue, print_chain, print_certificate, print_stop, print_place, print_halt, print_disagreement, print_answer}
 use Rattle.risch_cert.proofs.PrintingExamples.{over, whole, at_0, at_1, in_t1, x}
 
 -- the integral of 1/(x^2 + 1)
@@ -33,6 +34,16 @@ logarithm = refl
 zero_argument : print_log_part (record { poly = over (negsuc 0) 2 ∷ whole (pos 1) ∷ []; arg = [] }) ≡ codes "log 1/2 of 0\n"
 unfolding print_log_part print_logarithm print_fraction digits
 zero_argument = refl
+
+-- the integral of 1/log(x) is not elementary, where t1 is log(x)
+refutation : print_answer (Refuted (record {
+  partial = record { part = at_0 (Below (whole (pos 0))); logs = [] };
+  rest = at_1 (in_t1 (Below (whole (pos 1)) ∷ Below (whole (pos 1)) ∷ []));
+  level = 1;
+  end = Residue 1 (at_0 x);
+})) ≡ codes "refuted\npart 0\nrest t1+1\nend residue of t1 power 1 trace x\n"
+unfolding print_answer print_chain print_rest print_residue print_log_part print_logarithm print_root_sum print_element print_fractions_in_z print_in_z print_below print_ratio print_polynomial print_factor print_fraction variable_name element digits
+refutation = refl
 
 disagreement : print_answer (Disagree (at_0 x) (at_0 (Below (over (pos 1) 2)))) ≡ codes "disagree\nleft x\nright 1/2\n"
 unfolding print_answer print_disagreement print_element print_below print_ratio print_polynomial print_factor print_fraction variable_name element digits

@@ -19,6 +19,22 @@ pub integral_lines : (text part logs : List ℕ) → text ≡ part →
     ((codes "integral\npart " ++ (text ++ codes "\n")) ++ logs) ++ codes "end\n" ≡ line (codes "integral") ++ (line (codes "part " ++ part) ++ (logs ++ line (codes "end")))
 integral_lines text part logs e = rw e (joined (codes "integral\npart ") part (codes "\n") logs (codes "end\n"))
 
+-- The lines of a refutation.
+pub rest_line : (text : List ℕ) {rest first : List ℕ} → first ≡ rest → text ++ (codes "rest " ++ (first ++ codes "\n")) ≡ text ++ line (codes "rest " ++ rest)
+rest_line text e = rw e (simp append_assoc)
+
+pub residue_line : (text power : List ℕ) {name trace first second : List ℕ} → first ≡ name → second ≡ trace →
+    text ++ (codes "end residue of " ++ (first ++ (codes " power " ++ (power ++ (codes " trace " ++ (second ++ codes "\n"))))))
+    ≡ text ++ line (codes "end residue of " ++ (name ++ (codes " power " ++ (power ++ (codes " trace " ++ trace)))))
+residue_line text power e f = rw (e, f) (simp append_assoc)
+
+joined_more : (head part feed logs rest end : List ℕ) → (((head ++ (part ++ feed)) ++ logs) ++ rest) ++ end ≡ head ++ ((part ++ feed) ++ (logs ++ (rest ++ end)))
+joined_more head part feed logs rest end = simp append_assoc
+
+pub chain_lines : (text part logs rest end : List ℕ) → text ≡ part →
+    (((codes "refuted\npart " ++ (text ++ codes "\n")) ++ logs) ++ rest) ++ end ≡ line (codes "refuted") ++ (line (codes "part " ++ part) ++ (logs ++ (rest ++ end)))
+chain_lines text part logs rest end e = rw e (joined_more (codes "refuted\npart ") part (codes "\n") logs rest end)
+
 -- The line of a stop.
 pub halt_line : {stop place first second : List ℕ} → first ≡ stop → second ≡ place →
     first ++ (codes " in " ++ (second ++ codes "\n")) ≡ line (stop ++ (codes " in " ++ place))

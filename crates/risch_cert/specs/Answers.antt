@@ -15,9 +15,12 @@ use Rattle.risch_cert.specs.declared.answer.Place.{Place}
 use Rattle.risch_cert.specs.declared.answer.Place.TheVariants.{Reading, Preparing, Branch, Gathering, Checking, Solving}
 use Rattle.risch_cert.specs.declared.answer.Halt.{Halt}
 use Rattle.risch_cert.specs.declared.answer.Certificate.{Certificate}
-use Rattle.risch_cert.specs.declared.answer.Certificate.TheVariants.{Integral as Certified}
+use Rattle.risch_cert.specs.declared.answer.Certificate.TheVariants.{Integral as Certified, Refuted as CertifiedChain}
 use Rattle.risch_cert.specs.declared.answer.Answer.{Answer}
-use Rattle.risch_cert.specs.declared.answer.Answer.TheVariants.{Integral as Found, Stopped, Disagree}
+use Rattle.risch_cert.specs.declared.answer.Answer.TheVariants.{Integral as Found, Refuted, Stopped, Disagree}
+use Rattle.risch_cert.specs.declared.chain.Chain.{Chain}
+use Rattle.risch_cert.specs.declared.chain.End.{End}
+use Rattle.risch_cert.specs.declared.chain.End.TheVariants.{Residue}
 use Rattle.risch_cert.specs.Printing.{print_fraction, variable_name, print_element, print_in_z, print_fractions_in_z}
 
 -- a line ends with byte 10
@@ -56,8 +59,27 @@ unfoldable pub print_integral : rootsum.Integral → List ℕ
 print_integral it =
     line (codes "integral") ++ (line (codes "part " ++ print_element it.part) ++ (print_log_parts it.logs ++ line (codes "end")))
 
+-- ---- refutations
+unfoldable pub print_rest : Element → List ℕ
+print_rest rest = line (codes "rest " ++ print_element rest)
+
+-- an end by the trace of a power of the residues, at a level
+unfoldable pub print_residue : ℕ → ℕ → Element → List ℕ
+print_residue level power trace =
+    line (codes "end residue of " ++ (variable_name level ++ (codes " power " ++ (decimal power ++ (codes " trace " ++ print_element trace)))))
+
+abbrev pub print_end : ℕ → End → List ℕ
+print_end level (Residue power trace) = print_residue level power trace
+
+-- the partial integral, the rest and the end
+unfoldable pub print_chain : Chain → List ℕ
+print_chain chain =
+    line (codes "refuted") ++ (line (codes "part " ++ print_element chain.partial.part) ++ (print_log_parts chain.partial.logs ++ (print_rest chain.rest ++ print_end chain.level chain.end)))
+
+-- ---- certificates
 unfoldable pub print_certificate : Certificate → List ℕ
 print_certificate (Certified it) = print_integral it
+print_certificate (CertifiedChain chain) = print_chain chain
 
 -- the operation that overflows
 abbrev pub print_operation : Op → List ℕ
@@ -97,5 +119,6 @@ print_disagreement left right =
 
 unfoldable pub print_answer : Answer → List ℕ
 print_answer (Found it) = print_integral it
+print_answer (Refuted chain) = print_chain chain
 print_answer (Stopped halt) = print_halt halt
 print_answer (Disagree left right) = print_disagreement left right

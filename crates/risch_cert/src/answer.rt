@@ -2,6 +2,7 @@
 
 ghost use Rattle.std.specs.Prelude.{◌≡◌, IfOk};
 
+use crate::chain::Chain;
 use risch_elem::{Elem, Stop};
 use risch_rootsum::Integral;
 use std::alloc::{AllocError, Global};
@@ -35,6 +36,8 @@ pub struct Halt {
 pub enum Answer {
     /// Its integral.
     Integral(Integral),
+    /// Why it has no elementary integral.
+    Refuted(Chain),
     /// The run stops.
     Stopped(Halt),
     /// The derivative of the integral that was found, and the integrand, which is another element.
@@ -46,6 +49,8 @@ pub enum Answer {
 pub enum Certificate {
     /// An integral.
     Integral(Integral),
+    /// A refutation.
+    Refuted(Chain),
 }
 
 impl Halt {
@@ -72,6 +77,7 @@ impl Answer {
     {
         match self {
             Answer::Integral(integral) => Ok(Answer::Integral(integral.copy(alloc)?)),
+            Answer::Refuted(chain) => Ok(Answer::Refuted(chain.copy(alloc)?)),
             Answer::Stopped(halt) => Ok(Answer::Stopped(halt.copy(alloc)?)),
             Answer::Disagree { left, right } => {
                 let left = left.copy(alloc)?;
@@ -91,6 +97,7 @@ impl Certificate {
     {
         match self {
             Certificate::Integral(integral) => Ok(Certificate::Integral(integral.copy(alloc)?)),
+            Certificate::Refuted(chain) => Ok(Certificate::Refuted(chain.copy(alloc)?)),
         }
     }
 }

@@ -4,6 +4,7 @@ ghost use Rattle.std.specs.Prelude.{◌≡◌, ◌++◌, string_bytes, IfOk, OnO
 ghost use Rattle.risch_cert.specs.Answers as spec;
 
 use crate::answer::{Answer, Certificate, Halt, Place};
+use crate::chain::{Chain, End};
 use crate::elements::{element_text, fractions_in_z, text_in_z};
 use crate::terms::{print_fraction, variable_name};
 use crate::texts::bytes_of;
@@ -23,6 +24,7 @@ pub fn print_certificate(alloc: Global, certificate: &Certificate) -> Result<Tex
 {
     match certificate {
         Certificate::Integral(integral) => print_integral(alloc, integral),
+        Certificate::Refuted(chain) => print_chain(alloc, chain),
     }
 }
 
@@ -35,6 +37,7 @@ pub fn print_answer(alloc: Global, answer: &Answer) -> Result<Text, AllocError>
 {
     match answer {
         Answer::Integral(integral) => print_integral(alloc, integral),
+        Answer::Refuted(chain) => print_chain(alloc, chain),
         Answer::Stopped(halt) => print_halt(alloc, halt),
         Answer::Disagree { left, right } => print_disagreement(alloc, left, right),
     }
@@ -49,6 +52,52 @@ fn print_integral(alloc: Global, integral: &Integral) -> Result<Text, AllocError
     push_log_parts(alloc, &mut text, integral.logs.as_slice())?;
     text.push_str("end\n")?;
     Ok(bytes_of(text))
+}
+
+/// A chain: its partial integral, its rest and its end.
+fn print_chain(alloc: Global, chain: &Chain) -> Result<Text, AllocError>
+    ensures { IfOk result (λ text. text ≡ spec.print_chain chain.now) }
+{
+    let part = element_text(alloc, &chain.partial.part)?;
+    let mut text = format!(in alloc; "refuted\npart {part}\n")?;
+    push_log_parts(alloc, &mut text, chain.partial.logs.as_slice())?;
+    push_rest(alloc, &mut text, &chain.rest)?;
+    push_end(alloc, &mut text, chain.level, &chain.end)?;
+    Ok(bytes_of(text))
+}
+
+/// Appends the line of a rest.
+fn push_rest(alloc: Global, text: &mut String, rest: &Elem) -> Result<(), AllocError>
+    ensures { OnOk result (string_bytes text.new ≡ string_bytes text.old ++ spec.print_rest rest.now) }
+{
+    let rest = element_text(alloc, rest)?;
+    writeln!(text, "rest {rest}")?;
+    Ok(())
+}
+
+/// Appends the line of an end at a level.
+fn push_end(alloc: Global, text: &mut String, level: u8, end: &End) -> Result<(), AllocError>
+    ensures { OnOk result (string_bytes text.new ≡ string_bytes text.old ++ spec.print_end level end.now) }
+{
+    match end {
+        End::Residue { power, trace } => push_residue(alloc, text, level, *power, trace),
+    }
+}
+
+/// Appends the line of an end by the trace of a power of the residues.
+fn push_residue(
+    alloc: Global,
+    text: &mut String,
+    level: u8,
+    power: u16,
+    trace: &Elem,
+) -> Result<(), AllocError>
+    ensures { OnOk result (string_bytes text.new ≡ string_bytes text.old ++ spec.print_residue level power trace.now) }
+{
+    let name = variable_name(alloc, level)?;
+    let trace = element_text(alloc, trace)?;
+    writeln!(text, "end residue of {name} power {power} trace {trace}")?;
+    Ok(())
 }
 
 /// Appends a line for each logarithmic part.

@@ -1,6 +1,6 @@
 -- The lines of an answer, one after the other.
-use Rattle.std.proofs.Common.{◌≡◌, ℕ, suc, ◌+◌, ◌<◌, ◌^◌, List, [], ◌∷◌, ◌++◌, length, map, Option, Some, None, Ok, refl, sym, ap, ◌∙◌, arith, length-append}
-use Rattle.std.specs.Prelude.{option_map, All}
+use Rattle.std.proofs.Common.{◌≡◌, ℕ, suc, ◌+◌, ◌<◌, ◌^◌, List, [], ◌∷◌, ◌++◌, length, map, Bool, true, false, Option, Some, None, Result, Ok, Err, refl, sym, ap, ◌∙◌, arith, length-append, append_assoc}
+use Rattle.std.specs.Prelude.{option_map, All, codes, OnOk, IfOk, IfErr}
 use Rattle.std.proofs.lemmas.List.{map-append}
 use Rattle.std.proofs.lemmas.List.Elements.{All-nil, All-push}
 use Rattle.risch_expression.specs.Words.{after_word}
@@ -10,13 +10,18 @@ use Rattle.risch_expression.specs.Grammar.{Read}
 use Rattle.risch_expression.specs.Reading.{IsFaultOf}
 use Rattle.risch_expression.specs.declared.fault.ReadFault.{ReadFault}
 use Rattle.risch_expression.specs.declared.fault.ReadFault.TheVariants.{Syntax, Memory}
+use Rattle.risch_expression.specs.declared.fault.SyntaxFault.{SyntaxFault}
 use Rattle.risch_expression.specs.declared.names.Names.{Names}
-use Rattle.risch_text.specs.Lines.{Front, moved, Reached, behind_word, fixed, bare_line, expression_line, InFile}
-use Rattle.risch_text.specs.Certified.{LogLines, next_log, log_lines, log_lines_from, with_log}
-use Rattle.risch_text.specs.Programs.{log_program, IsLogOver}
-use Rattle.risch_text.specs.Reading.{IsSomeLog, IsNextFault, AreLogLines}
+use Rattle.risch_text.specs.Lines.{Front, moved, Reached, behind_word, wanted, fixed, bare_line, expression_line, InFile}
+use Rattle.risch_text.specs.File.{monomials}
+use Rattle.risch_text.specs.Certified.{LogLines, next_log, log_lines, log_lines_from, with_log, AnswerTree, end_line, is_refuted, partial_lines, integral_end, refutation_end, answer_end, answer_lines}
+use Rattle.risch_text.specs.Programs.{log_program, answer_program, IsLogOver, IsPartialOver}
+use Rattle.risch_text.specs.Reading.{IsSum, IsSomeLog, IsNextFault, AreLogLines, IsSomeEnd, IsPartialRead, IsAnswerRead, IsSomeAnswer}
 use Rattle.risch_text.specs.declared.programs.LogProgram.{LogProgram}
 use Rattle.risch_text.specs.declared.programs.LogPrograms.{LogPrograms}
+use Rattle.risch_text.specs.declared.programs.EndProgram.{EndProgram}
+use Rattle.risch_text.specs.declared.programs.AnswerProgram.{AnswerProgram}
+use Rattle.risch_expression.specs.declared.program.Step.{Step}
 use Rattle.risch_text.proofs.Fronts.{line_in_file}
 
 -- ---- where some word stands, the number of the line has 32 bits
@@ -34,6 +39,18 @@ fixed_low : (w : ℕ) (ws : List ℕ) (front : Front) (behind : Option Front) �
 unfolding fixed
 fixed_low w ws front None e next a h f = let none = rw e at h in cc
 fixed_low w ws front (Some behind) e next a h f = word_low w ws front behind e f
+
+pub fixed_word_low : (w : ℕ) (ws : List ℕ) (front behind : Front) → fixed (w ∷ ws) front ≡ Ok behind → InFile front → front.line < 2 ^ 32
+unfolding fixed
+fixed_word_low w ws front behind h f = by_found (behind_word (w ∷ ws) front) refl h
+  where
+    by_found : (found : Option Front) → behind_word (w ∷ ws) front ≡ found → wanted front found ≡ Ok behind → front.line < 2 ^ 32
+    by_found None e k = absurd (cc)
+    by_found (Some there) e k = word_low w ws front there e f
+
+pub on_ok : {A E : Type 0} (result : Result A E) (P : Type 0) → P → OnOk result P
+on_ok (Ok a) P h = h
+on_ok (Err e) P h = tt
 
 pub bare_line_low : (w : ℕ) (ws : List ℕ) (front next : Front) → bare_line (w ∷ ws) front ≡ Ok next → InFile front → front.line < 2 ^ 32
 unfolding bare_line
@@ -102,3 +119,120 @@ module _ (n before : ℕ) (rule : Read (Reached LogLines)) (most : ℕ) (program
   pub logs_fault : (below : ℕ) (fault : ReadFault) → most ≡ suc below → IsNextFault fault (next_log n front) → IsFaultOf fault rule
   logs_fault below (Syntax f) e h = next below e ∙ ap (log_lines_from (log_lines n below) s.lines front) h
   logs_fault below Memory e h = tt
+
+-- ---- an answer, over n monomials
+pub part_fault : (n first : ℕ) (front : Front) (fault : ReadFault) → IsFaultOf fault (expression_line (codes "part") (monomials n) front) → IsFaultOf fault (partial_lines n first front)
+unfolding partial_lines
+part_fault n first front (Syntax f) h = rw h refl
+part_fault n first front Memory h = tt
+
+module _ (n first : ℕ) (front after : Front) (part : List Step) (p : IsSum (monomials n) (expression_line (codes "part") (monomials n) front) part after) where
+  pub partial_read : (programs : LogPrograms) (next : Front) →
+      AreLogLines n 2 (log_lines n (length after.rest) (record { logs = []; lines = first ∷ front.line ∷ [] }) after) programs next →
+      IsPartialRead n (partial_lines n first front) (record { part = part; logs = programs.logs; refutation = None; lines = programs.lines }) next
+  unfolding partial_lines
+  partial_read programs next l = record {
+    tree = record { part = p.tree; logs = l.lines.logs; refutation = None; lines = l.lines.lines };
+    is = rw (p.is, l.is) refl;
+    written = rw (p.written, l.logs_written, l.lines_written) refl;
+    over = record { unrefuted = refl; part = p.over; logs = l.over; numbered = l.numbered };
+  }
+
+  pub partial_fault : (fault : ReadFault) → IsFaultOf fault (log_lines n (length after.rest) (record { logs = []; lines = first ∷ front.line ∷ [] }) after) → IsFaultOf fault (partial_lines n first front)
+  unfolding partial_lines
+  partial_fault (Syntax f) h = rw (p.is, h) refl
+  partial_fault Memory h = tt
+
+module _ (n : ℕ) (tree : AnswerTree) (partial : AnswerProgram) (written : partial ≡ answer_program tree) (over : IsPartialOver (n + 1) tree) (front : Front) where
+  -- the end of an integral
+  pub integral_read : (next : Front) (lines : List ℕ) → bare_line (codes "end") front ≡ Ok next → lines ≡ partial.lines ++ front.line ∷ [] →
+      IsAnswerRead n (integral_end tree front) (record { part = partial.part; logs = partial.logs; refutation = partial.refutation; lines = lines }) next
+  unfolding integral_end
+  integral_read next lines e is = record {
+    tree = record { part = tree.part; logs = tree.logs; refutation = tree.refutation; lines = tree.lines ++ front.line ∷ [] };
+    is = rw e refl;
+    written = rw (is, written) refl;
+    over = rw over.unrefuted (record { part = over.part; logs = over.logs; refutation = tt; numbered = omega (arith, over.numbered, length-append tree.lines (front.line ∷ [])) });
+  }
+
+  -- the rest and the end of a refutation
+  module _ (after : Front) (rest : List Step) (r : IsSum (monomials n) (expression_line (codes "rest") (monomials n) front) rest after) where
+    pub refutation_read : (end : EndProgram) (next : Front) (first_lines lines : List ℕ) → IsSomeEnd n (end_line n after) end next → first_lines ≡ partial.lines ++ front.line ∷ [] →
+        lines ≡ first_lines ++ after.line ∷ [] →
+        IsAnswerRead n (refutation_end n tree front) (record { part = partial.part; logs = partial.logs; refutation = Some (record { rest = rest; end = end }); lines = lines }) next
+    unfolding refutation_end
+    refutation_read end next first_lines lines s first is =
+        let both : lines ≡ tree.lines ++ front.line ∷ after.line ∷ [] = is ∙ ap (λ ls. ls ++ after.line ∷ []) first ∙ append_assoc partial.lines (front.line ∷ []) (after.line ∷ [])
+        ∙ ap (λ (a : AnswerProgram). a.lines ++ front.line ∷ after.line ∷ []) written in
+        record {
+          tree = record { part = tree.part; logs = tree.logs; refutation = Some (record { rest = r.tree; end = s.tree }); lines = tree.lines ++ front.line ∷ after.line ∷ [] };
+          is = rw (r.is, s.is) refl;
+          written = rw (both, written, r.written, s.written) refl;
+          over = record {
+            part = over.part;
+            logs = over.logs;
+            refutation = record { rest = r.over; end = s.over };
+            numbered = omega (arith, over.numbered, length-append tree.lines (front.line ∷ after.line ∷ []));
+          };
+        }
+
+    pub refutation_unread : (next : Front) → end_line n after ≡ Ok (record { value = None; front = next }) → refutation_end n tree front ≡ Ok (record { value = None; front = next })
+    unfolding refutation_end
+    refutation_unread next e = rw (r.is, e) refl
+
+pub integral_end_fault : (tree : AnswerTree) (front : Front) (fault : SyntaxFault) → bare_line (codes "end") front ≡ Err fault → integral_end tree front ≡ Err fault
+unfolding integral_end
+integral_end_fault tree front fault e = rw e refl
+
+pub rest_fault : (n : ℕ) (tree : AnswerTree) (front : Front) (fault : ReadFault) → IsFaultOf fault (expression_line (codes "rest") (monomials n) front) → IsFaultOf fault (refutation_end n tree front)
+unfolding refutation_end
+rest_fault n tree front (Syntax f) h = rw h refl
+rest_fault n tree front Memory h = tt
+
+pub end_line_fault : (n : ℕ) (tree : AnswerTree) (front after : Front) (rest : List Step) (fault : ReadFault) → IsSum (monomials n) (expression_line (codes "rest") (monomials n) front) rest after →
+    IsFaultOf fault (end_line n after) → IsFaultOf fault (refutation_end n tree front)
+unfolding refutation_end
+end_line_fault n tree front after rest (Syntax f) r h = let is = r.is in rw (is, h) refl
+end_line_fault n tree front after rest Memory r h = tt
+
+-- the first line, the part and the logarithms, and the end
+pub first_line_fault : (n : ℕ) (front : Front) (fault : SyntaxFault) → is_refuted front ≡ Err fault → answer_lines n front ≡ Err fault
+unfolding answer_lines
+first_line_fault n front fault e = rw e refl
+
+module _ (n : ℕ) (front after : Front) (refuted : Bool) (first : is_refuted front ≡ Ok (record { value = refuted; front = after })) where
+  pub partial_lines_fault : (fault : ReadFault) → IsFaultOf fault (partial_lines n front.line after) → IsFaultOf fault (answer_lines n front)
+  unfolding answer_lines
+  partial_lines_fault (Syntax f) h = rw (first, h) refl
+  partial_lines_fault Memory h = tt
+
+  module _ (partial : AnswerProgram) (behind : Front) (p : IsPartialRead n (partial_lines n front.line after) partial behind) where
+    lines_are : answer_lines n front ≡ answer_end n refuted p.tree behind
+    unfolding answer_lines
+    lines_are = let is = p.is in rw (first, is) refl
+
+    pub answer_ended : (program : Option AnswerProgram) (next : Front) → IsSomeAnswer n (answer_end n refuted p.tree behind) program next → IsSomeAnswer n (answer_lines n front) program next
+    answer_ended program next h = rw lines_are h
+
+    pub answer_end_fault : (fault : ReadFault) → IsFaultOf fault (answer_end n refuted p.tree behind) → IsFaultOf fault (answer_lines n front)
+    answer_end_fault fault h = rw lines_are h
+
+module _ (n : ℕ) (front after behind : Front) (partial : AnswerProgram) (p : IsPartialRead n (partial_lines n front.line after) partial behind) where
+  pub refuted_answer : (result : Result (Option AnswerProgram) ReadFault) (next : Front) → is_refuted front ≡ Ok (record { value = true; front = after }) →
+      ((tree : AnswerTree) → partial ≡ answer_program tree → IsPartialOver (n + 1) tree → IfOk result (λ program. IsSomeAnswer n (refutation_end n tree behind) program next)) →
+      IfOk result (λ program. IsSomeAnswer n (answer_lines n front) program next)
+  refuted_answer (Ok program) next first h = answer_ended n front after true first partial behind p program next (h p.tree p.written p.over)
+  refuted_answer (Err fault) next first h = tt
+
+  pub refuted_answer_fault : (result : Result (Option AnswerProgram) ReadFault) → is_refuted front ≡ Ok (record { value = true; front = after }) →
+      ((tree : AnswerTree) → IfErr result (λ fault. IsFaultOf fault (refutation_end n tree behind))) → IfErr result (λ fault. IsFaultOf fault (answer_lines n front))
+  refuted_answer_fault (Ok program) first h = tt
+  refuted_answer_fault (Err fault) first h = answer_end_fault n front after true first partial behind p fault (h p.tree)
+
+  pub integral_answer : (program : AnswerProgram) (next : Front) → is_refuted front ≡ Ok (record { value = false; front = after }) →
+      ((tree : AnswerTree) → partial ≡ answer_program tree → IsPartialOver (n + 1) tree → IsAnswerRead n (integral_end tree behind) program next) → IsSomeAnswer n (answer_lines n front) (Some program) next
+  integral_answer program next first h = answer_ended n front after false first partial behind p (Some program) next (h p.tree p.written p.over)
+
+  pub integral_answer_fault : (fault : ReadFault) → is_refuted front ≡ Ok (record { value = false; front = after }) → ((tree : AnswerTree) → IsFaultOf fault (integral_end tree behind)) →
+      IsFaultOf fault (answer_lines n front)
+  integral_answer_fault fault first h = answer_end_fault n front after false first partial behind p fault (h p.tree)

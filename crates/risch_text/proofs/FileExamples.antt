@@ -1,5 +1,5 @@
 -- Files as they are read: each fault of lines once, refusals, and the numbers of lines.
-use Rattle.std.proofs.Common.{◌≡◌, refl, [], ◌∷◌, Ok, Some, true, false, negsuc, pos}
+use Rattle.std.proofs.Common.{◌≡◌, refl, [], ◌∷◌, Ok, None, Some, true, false, negsuc, pos}
 use Rattle.std.specs.Prelude.{codes}
 use Rattle.risch_frac.specs.Gcd
 use Rattle.risch_frac.specs.Fraction
@@ -8,7 +8,8 @@ use Rattle.risch_level.specs.Levels
 use Rattle.risch_level.specs.Levels.{element}
 use Rattle.risch_level.specs.Accessors.{variable as variable_element}
 use Rattle.risch_tower.specs.Tower
-use Rattle.risch_cert.specs.declared.answer.Certificate.TheVariants.{Integral}
+use Rattle.risch_cert.specs.declared.answer.Certificate.TheVariants.{Integral, Refuted}
+use Rattle.risch_cert.specs.declared.chain.End.TheVariants.{Residue}
 use Rattle.risch_expression.specs.Words
 use Rattle.risch_expression.specs.Fault
 use Rattle.risch_expression.specs.Grammar
@@ -29,12 +30,12 @@ use Rattle.risch_text.specs.declared.certified.ReadCertified.TheVariants as cert
 
 -- names all that the readings look through
 unfoldable reading : Unit {0}
-unfolding Words.after_blanks Words.after_byte Words.after_word Words.name Words.more_digits Words.numeral Fault.unexpected_cause Grammar.number_found Grammar.wanted_number Grammar.named Grammar.atom Grammar.power_rule Grammar.product_sign Grammar.sum_sign Grammar.term_rule Grammar.sum_rule Grammar.atom_in Grammar.power_in Grammar.term_in Grammar.sum_in Grammar.expression Lines.after_lines Lines.from_line Lines.behind_word Lines.behind_byte Lines.fixed Lines.symbol Lines.line_end Lines.number_of Lines.sum_of Lines.bare_line Lines.expression_line Lines.nothing File.is_exponential File.tower_line File.problem_lines File.whole_problem Certified.signed_number Certified.factor Certified.after_log Certified.after_sum Certified.next_log Certified.answer_lines Certified.whole_answer Certified.whole_certified read_problem read_certified
+unfolding Words.after_blanks Words.after_byte Words.after_word Words.name Words.more_digits Words.numeral Fault.unexpected_cause Grammar.number_found Grammar.wanted_number Grammar.named Grammar.atom Grammar.power_rule Grammar.product_sign Grammar.sum_sign Grammar.term_rule Grammar.sum_rule Grammar.atom_in Grammar.power_in Grammar.term_in Grammar.sum_in Grammar.expression Lines.after_lines Lines.from_line Lines.behind_word Lines.behind_byte Lines.fixed Lines.symbol Lines.line_end Lines.number_of Lines.small_number_of Lines.wanted_variable Lines.variable_of Lines.sum_of Lines.bare_line Lines.expression_line Lines.nothing File.is_exponential File.tower_line File.problem_lines File.whole_problem Certified.signed_number Certified.factor Certified.after_log Certified.after_sum Certified.next_log Certified.end_power Certified.residue_end Certified.end_kind Certified.end_line Certified.is_refuted Certified.partial_lines Certified.integral_end Certified.refutation_end Certified.answer_lines Certified.whole_certified read_problem read_certified
 reading = tt
 
 -- and those of values
 unfoldable values : Unit {0}
-unfolding Evaluation.number_value Evaluation.variable_value Evaluation.divided Evaluation.ratio Evaluation.operate Levels.element Tower.rate_of_logarithm Tower.pushed Values.element_at Values.with_line Values.problem_value Values.factor_value Values.polynomial_at Values.logarithm Values.root_sum Values.answer_value Values.certified_value
+unfolding Evaluation.number_value Evaluation.variable_value Evaluation.divided Evaluation.ratio Evaluation.operate Levels.element Tower.rate_of_logarithm Tower.pushed Values.element_at Values.with_line Values.problem_value Values.factor_value Values.polynomial_at Values.logarithm Values.root_sum Values.integral_value Values.chain_value Values.answer_value Values.certified_value
 values = tt
 
 -- and what a sum and a power of numbers and of z need
@@ -102,15 +103,66 @@ answer : whole_certified (codes "integrate 0\nintegral\npart 0\nlog -1/2 of x\n\
     part = number 0;
     logs = log_line (record { top = record { num = negsuc 0; den = 1 }; bottom = Some (record { number = record { num = pos 2; den = 1 }; left = 27 }) }) (variable 0)
         ∷ sum_line (power root 2) (variable 0) 18 ∷ [];
+    refutation = None;
     lines = 2 ∷ 3 ∷ 4 ∷ 6 ∷ 7 ∷ [];
   };
 }))
 unfolding reading
 answer = refl
 
-refuted : read_certified (codes "integrate 0\nrefuted x") ≡ certified.NotYet
+refutation : whole_certified (codes "integrate 0\nrefuted\npart 0\nlog 1 of x\nrest 0\nend residue of x power 65535 trace x\n") ≡ Ok (Some (record {
+  problem = record { tower = []; integrand = number 0 };
+  answer = record {
+    part = number 0;
+    logs = log_line (record { top = record { num = pos 1; den = 1 }; bottom = None }) (variable 0) ∷ [];
+    refutation = Some (record { rest = number 0; end = record { level = 0; power = 65535; trace = variable 0 } });
+    lines = 2 ∷ 3 ∷ 4 ∷ 5 ∷ 6 ∷ [];
+  };
+}))
 unfolding reading
-refuted = refl
+refutation = refl
+
+byte_behind_word : read_certified (codes "integrate 0\nrefuted x") ≡ certified.Syntax 20 Byte
+unfolding reading
+byte_behind_word = refl
+
+-- What begins with an equation, and an end in an exponent or a degree, is not yet read, whatever follows.
+equation : read_certified (codes "integrate 0\nrefuted\npart 0\nrest x\nequation ;") ≡ certified.NotYet
+unfolding reading
+equation = refl
+
+exponent : read_certified (codes "integrate 0\nrefuted\npart 0\nrest x\nend exponent ;") ≡ certified.NotYet
+unfolding reading
+exponent = refl
+
+degree : read_certified (codes "integrate 0\nrefuted\npart 0\nrest x\nend degree") ≡ certified.NotYet
+unfolding reading
+degree = refl
+
+-- A fault before the end comes first.
+rest_fault : read_certified (codes "integrate 0\nrefuted\npart 0\nrest ;\nequation") ≡ certified.Syntax 32 Byte
+unfolding reading
+rest_fault = refl
+
+no_end : read_certified (codes "integrate 0\nrefuted\npart 0\nrest x\n") ≡ certified.Syntax 34 End
+unfolding reading
+no_end = refl
+
+other_end : read_certified (codes "integrate 0\nrefuted\npart 0\nrest x\nend residues of x") ≡ certified.Syntax 38 Byte
+unfolding reading
+other_end = refl
+
+unknown_variable : read_certified (codes "integrate 0\nrefuted\npart 0\nrest x\nend residue of t1 power 1 trace x\n") ≡ certified.Syntax 49 Name
+unfolding reading
+unknown_variable = refl
+
+no_variable : read_certified (codes "integrate 0\nrefuted\npart 0\nrest x\nend residue of 1 power 1 trace x\n") ≡ certified.Syntax 49 Byte
+unfolding reading
+no_variable = refl
+
+wide_power : read_certified (codes "integrate 0\nrefuted\npart 0\nrest x\nend residue of x power 65536 trace x\n") ≡ certified.Syntax 57 Wide
+unfolding reading
+wide_power = refl
 
 no_factor : read_certified (codes "integrate 0\nintegral\npart 0\nlog x of x\nend\n") ≡ certified.Syntax 32 Byte
 unfolding reading
@@ -143,3 +195,11 @@ accepted : read_certified (codes "integrate 0\nintegral\npart 0\nsum z^2-2 of x\
 })
 unfolding reading values arithmetic
 accepted = refl
+
+accepted_refutation : read_certified (codes "integrate 0\nrefuted\npart x\nrest 1\nend residue of x power 3 trace x\n") ≡ certified.Certified (record {
+  problem = record { tower = []; integrand = element.zero };
+  certificate = Refuted (record { partial = record { part = variable_element 5 0; logs = [] }; rest = element.one; level = 0; end = Residue 3 (variable_element 5 0) });
+  lines = 2 ∷ 3 ∷ 4 ∷ 5 ∷ [];
+})
+unfolding reading values arithmetic
+accepted_refutation = refl

@@ -1,11 +1,11 @@
 -- What stands at a front.
-use Rattle.std.proofs.Common.{◌≡◌, ◌≢◌, ℕ, ◌+◌, ◌≤◌, ◌^◌, List, [], ◌∷◌, length, Bool, true, false, refl, ap, sym, ◌∙◌, arith, Some, None, Ok, Err, ◌==◌}
-use Rattle.std.proofs.lemmas.Bool.{cond-true, cond-false, eq-eqb, ne_eqb}
-use Rattle.std.specs.Prelude.{option_map, ◌||◌}
+use Rattle.std.proofs.Common.{◌≡◌, ◌≢◌, ℕ, ◌+◌, ◌-◌, ◌≤◌, ◌^◌, List, [], ◌∷◌, length, Bool, true, false, refl, ap, sym, subst, ◌∙◌, arith, Option, Some, None, Result, Ok, Err, ◌==◌}
+use Rattle.std.proofs.lemmas.Bool.{cond-true, cond-false, cond_both, eq-eqb, ne_eqb, leb-true}
+use Rattle.std.specs.Prelude.{nat_le, option_map, ◌||◌, ◌&&◌, OnOk}
 use Rattle.risch_frac.specs.Fraction.{Fraction, whole}
 use Rattle.risch_expression.specs.Fault.{most_number}
 use Rattle.risch_expression.specs.Words.{is_blank, after_blanks, after_byte, after_word}
-use Rattle.risch_expression.specs.Grammar.{wanted_number, expression}
+use Rattle.risch_expression.specs.Grammar.{variable_named, wanted_number, expression}
 use Rattle.risch_expression.specs.Reading.{IsParsedOver, IsFaultOf}
 use Rattle.risch_expression.specs.Taken.{Takes}
 use Rattle.risch_expression.specs.declared.fault.Cause.TheVariants.{Wide}
@@ -14,9 +14,9 @@ use Rattle.risch_expression.specs.declared.fault.ReadFault.TheVariants.{Syntax, 
 use Rattle.risch_expression.specs.declared.names.Names.{Names}
 use Rattle.risch_expression.specs.declared.program.Step.{Step}
 use Rattle.risch_expression.specs.declared.fault.SyntaxFault.{SyntaxFault}
-use Rattle.risch_text.specs.Lines.{Front, moved, reached, after_lines, from_line, behind_word, behind_byte, fixed, symbol, unexpected_at, line_end, number_of, sum_of, InFile}
-use Rattle.risch_text.specs.Reading.{Passes, IsSum}
-use Rattle.risch_text.proofs.Shorter.{after_byte-short, after_word-short, wanted_number-short, expression-short}
+use Rattle.risch_text.specs.Lines.{Front, moved, reached, after_lines, from_line, behind_word, behind_byte, fixed, symbol, unexpected_at, line_end, number_of, small_number_of, wanted_variable, variable_of, sum_of, InFile}
+use Rattle.risch_text.specs.Reading.{Passes, MovesTo, TakesVariable, IsSum}
+use Rattle.risch_text.proofs.Shorter.{after_byte-short, after_word-short, wanted_number-short, wanted_variable-short, expression-short}
 
 -- ---- lines that are passed over
 pub after_lines_end : (in_comment : Bool) (line start : ℕ) (bytes : List ℕ) → length bytes ≡ 0 → after_lines in_comment line start bytes ≡ record { rest = after_blanks bytes; line = line; start = start }
@@ -129,6 +129,49 @@ number_fault front fault e = rw e refl
 
 pub number_in_file : (front : Front) (n : ℕ) (rest : List ℕ) → wanted_number 64 most_number Wide front.rest ≡ Ok (record { value = n; rest = rest }) → InFile front → InFile (moved front rest)
 number_in_file front n rest e f = in_file_moved front rest f (let short = wanted_number-short 64 most_number Wide front.rest in rw e at short)
+
+pub small_number_read : (front : Front) (n : ℕ) (rest : List ℕ) → wanted_number 64 65535 Wide front.rest ≡ Ok (record { value = n; rest = rest }) → small_number_of front ≡ Ok (reached n (moved front rest))
+unfolding small_number_of
+small_number_read front n rest e = rw e refl
+
+pub small_number_fault : (front : Front) (fault : SyntaxFault) → wanted_number 64 65535 Wide front.rest ≡ Err fault → small_number_of front ≡ Err fault
+unfolding small_number_of
+small_number_fault front fault e = rw e refl
+
+pub small_number_in_file : (front : Front) (n : ℕ) (rest : List ℕ) → wanted_number 64 65535 Wide front.rest ≡ Ok (record { value = n; rest = rest }) → InFile front → InFile (moved front rest)
+small_number_in_file front n rest e f = in_file_moved front rest f (let short = wanted_number-short 64 65535 Wide front.rest in rw e at short)
+
+-- ---- variables
+both-true : (s t : Bool) → (s && t) ≡ true → (s ≡ true) × (t ≡ true)
+both-true true t e = (refl, e)
+both-true false t e = cc
+
+abbrev IsNamedLow : ℕ → Option ℕ → Type 0
+IsNamedLow monomials None = Unit {0}
+IsNamedLow monomials (Some i) = i ≤ monomials
+
+known-low : (monomials : ℕ) (text : List ℕ) → IsNamedLow monomials (variable_named monomials text)
+known-low monomials [] = tt
+known-low monomials (b ∷ []) = cond_both (b == 120) (Some 0) None (IsNamedLow monomials) (λ t. omega arith) (λ t. tt)
+known-low monomials (b ∷ (d ∷ [])) =
+    cond_both (b == 116 && ((nat_le 49 d && nat_le d 57) && nat_le (d - 48) monomials)) (Some (d - 48)) None (IsNamedLow monomials)
+    (λ t. leb-true (d - 48) monomials (both-true (nat_le 49 d && nat_le d 57) _ (both-true (b == 116) _ t).1).1) (λ t. tt)
+known-low monomials (b ∷ (d ∷ (e ∷ es))) = tt
+
+-- a variable that is named is one of x and the monomials
+pub named_low : (monomials level : ℕ) (text : List ℕ) → Some level ≡ variable_named monomials text → level ≤ monomials
+named_low monomials level text e = subst (IsNamedLow monomials) (sym e) (known-low monomials text)
+
+pub variable_moves : (monomials : ℕ) (front : Front) (result : Result ℕ SyntaxFault) (rest : List ℕ) → TakesVariable result (wanted_variable monomials front.rest) rest →
+    MovesTo result (variable_of monomials front) (moved front rest)
+unfolding variable_of
+variable_moves monomials front (Ok level) rest e = rw e refl
+variable_moves monomials front (Err fault) rest e = rw e refl
+
+pub variable_in_file : (monomials : ℕ) (front : Front) (result : Result ℕ SyntaxFault) (rest : List ℕ) → TakesVariable result (wanted_variable monomials front.rest) rest → InFile front →
+    OnOk result (InFile (moved front rest))
+variable_in_file monomials front (Ok level) rest e f = in_file_moved front rest f (let short = wanted_variable-short monomials front.rest in rw e at short)
+variable_in_file monomials front (Err fault) rest e f = tt
 
 -- ---- expressions
 pub sum_read : (names : Names) (front : Front) (program_old program : List Step) (rest : List ℕ) → program_old ≡ [] → IsParsedOver names (expression names front.rest) program_old program rest →

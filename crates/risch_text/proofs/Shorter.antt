@@ -7,12 +7,13 @@ use Rattle.risch_expression.specs.Words.{is_blank, after_blanks, after_byte, is_
 use Rattle.risch_expression.specs.Fault.{most_number, fault_at, unexpected}
 use Rattle.risch_expression.specs.Results.{and_next}
 use Rattle.risch_expression.specs.Tree.{Tree}
-use Rattle.risch_expression.specs.Grammar.{Read, Parsed, parsed, Rule, limited, number_found, wanted_number, named, number_atom, name_atom, atom, raised, with_exponent, power_rule, Sign, signed, product_sign, sum_sign, joined, joined_by_sign, joined_by, chain, term_rule, opposite, first_term, sum_rule, closed, opened, parenthesized, atom_in, power_in, term_in, sum_in, expression}
+use Rattle.risch_expression.specs.Grammar.{Read, Parsed, parsed, Rule, limited, number_found, wanted_number, variable_named, named, number_atom, name_atom, atom, raised, with_exponent, power_rule, Sign, signed, product_sign, sum_sign, joined, joined_by_sign, joined_by, chain, term_rule, opposite, first_term, sum_rule, closed, opened, parenthesized, atom_in, power_in, term_in, sum_in, expression}
 use Rattle.risch_expression.specs.declared.fault.Cause.{Cause}
-use Rattle.risch_expression.specs.declared.fault.Cause.TheVariants.{Wide, Exponent}
+use Rattle.risch_expression.specs.declared.fault.Cause.TheVariants.{Wide, Exponent, Name as UnknownName}
 use Rattle.risch_expression.specs.declared.names.Names.{Names}
 use Rattle.risch_expression.specs.declared.program.Operation.{Operation}
 use Rattle.risch_expression.specs.declared.program.Operation.TheVariants.{Sum, Difference, Product, Quotient}
+use Rattle.risch_text.specs.Lines.{known_variable, wanted_variable}
 
 -- ---- at most n bytes are left
 abbrev pub SomeShort : ℕ → Option (List ℕ) → Type 0
@@ -100,6 +101,20 @@ wanted_number-short open_left most above bytes = of (number_found most above byt
     of : (found : Option (Read Numeral)) → FoundShort (length bytes) found → NumberShort (length bytes) (option_map_or (λ found. found) found (Err (unexpected open_left bytes)))
     of None h = tt
     of (Some found) h = h
+
+-- ---- variables
+pub wanted_variable-short : (monomials : ℕ) (bytes : List ℕ) → NumberShort (length bytes) (wanted_variable monomials bytes)
+unfolding wanted_variable
+wanted_variable-short monomials bytes = by_name (name bytes) (name-short bytes)
+  where
+    by_level : (found : Name) (level : Option ℕ) → length found.rest ≤ length bytes →
+        NumberShort (length bytes) (option_map_or (λ l. Ok (record { value = l; rest = found.rest })) level (Err (fault_at bytes UnknownName)))
+    by_level found None h = tt
+    by_level found (Some level) h = h
+
+    by_name : (found : Option Name) → NameShort (length bytes) found → NumberShort (length bytes) (option_map_or (known_variable monomials bytes) found (Err (unexpected 64 bytes)))
+    by_name None h = tt
+    by_name (Some found) h = by_level found (variable_named monomials found.text) h
 
 -- ---- expressions
 abbrev pub Short : ℕ → Read Parsed → Type 0

@@ -1,7 +1,7 @@
 -- The values of a problem are the written values of its lines.
 use Rattle.std.specs.Prelude.{if◌then◌else◌, nat_lt, option_map, All}
 use Rattle.std.specs.List.{AllZip}
-use Rattle.std.proofs.Common.{◌≡◌, ℕ, ◌+◌, ◌≤◌, ◌<◌, Bool, true, false, List, [], ◌∷◌, ◌++◌, length, map, Some, Result, Ok, Err, refl, sym, ap, subst, ◌∙◌, arith, length-append, append_assoc}
+use Rattle.std.proofs.Common.{◌≡◌, ℕ, ◌+◌, ◌≤◌, ◌<◌, Bool, true, false, List, [], ◌∷◌, ◌++◌, length, map, Option, None, Some, Result, Ok, Err, refl, sym, ap, subst, ◌∙◌, arith, length-append, append_assoc}
 use Rattle.std.proofs.lemmas.Bool.{ltb-true}
 use Rattle.std.proofs.lemmas.List.{map-append, append-nil}
 use Rattle.std.proofs.lemmas.List.Elements.{All-head, All-tail}
@@ -23,19 +23,22 @@ use Rattle.risch_tower.specs.declared.fault.PushFault.{PushFault}
 use Rattle.risch_tower.specs.declared.fault.PushFault.TheVariants.{TooHigh}
 use Rattle.risch_rootsum.specs.declared.integral.Integral.{Integral}
 use Rattle.risch_rootsum.specs.declared.integral.LogPart.{LogPart}
-use Rattle.risch_cert.specs.declared.answer.Certificate.TheVariants.{Integral as Certified}
+use Rattle.risch_cert.specs.declared.answer.Certificate.{Certificate}
+use Rattle.risch_cert.specs.declared.answer.Certificate.TheVariants.{Integral as Certified, Refuted}
+use Rattle.risch_cert.specs.declared.chain.Chain.{Chain}
+use Rattle.risch_cert.specs.declared.chain.End.TheVariants.{Residue}
 use Rattle.risch_expression.specs.Results.{and_next, map_value}
 use Rattle.risch_expression.specs.Tree.{Tree, expression_of, IsOver}
 use Rattle.risch_expression.specs.Evaluation.{Valued, constant, constant_term, evaluate, element_value}
 use Rattle.risch_expression.proofs.Standing.{constant_term-is_element}
 use Rattle.risch_expression.proofs.EvaluationMeaning.{evaluate-means, element_answer_written}
 use Rattle.risch_text.specs.File.{TowerLine, ProblemTree, whole_problem}
-use Rattle.risch_text.specs.Certified.{LogLine, log_line, sum_line, AnswerTree, CertifiedTree, whole_certified}
+use Rattle.risch_text.specs.Certified.{LogLine, log_line, sum_line, RefutationTree, AnswerTree, CertifiedTree, whole_certified}
 use Rattle.risch_text.specs.Problem.{ProblemValue, CertifiedValue}
-use Rattle.risch_text.specs.Values.{Reading, map_fault, fault_of_value, fault_of_push, monomial_with, element_at, with_line, with_lines, factor_value, logarithm, log_value, with_logs, problem_value, answer_value, certified_value}
-use Rattle.risch_text.specs.Programs.{problem_program, certified_program, AreOver, IsProblemOver, IsLogOver, IsAnswerOver}
+use Rattle.risch_text.specs.Values.{Reading, map_fault, fault_of_value, fault_of_push, monomial_with, element_at, with_line, with_lines, factor_value, logarithm, log_value, with_logs, problem_value, integral_value, chain_value, certificate_value, answer_value, certified_value}
+use Rattle.risch_text.specs.Programs.{problem_program, certified_program, AreOver, IsProblemOver, IsLogOver, IsRefutationOver, IsSomeRefutationOver, IsAnswerOver}
 use Rattle.risch_text.specs.Reading.{IsWholeProblem, IsCertifiedRead}
-use Rattle.risch_text.specs.Meaning.{monomial_of, written_monomial, IsWritten, IsLogWritten, IsIntegralWritten, IsCertifiedWritten}
+use Rattle.risch_text.specs.Meaning.{monomial_of, written_monomial, IsWritten, IsLogWritten, IsIntegralWritten, IsChainWritten, IsCertificateWritten, IsCertifiedWritten}
 use Rattle.risch_text.specs.declared.fault.Fault.{Fault}
 use Rattle.risch_text.specs.declared.programs.ProblemProgram.{ProblemProgram}
 use Rattle.risch_text.specs.declared.programs.CertifiedProgram.{CertifiedProgram}
@@ -198,8 +201,8 @@ logs_written (l ∷ lines) parts all n small over e =
     }
 
 -- ---- answers
-integral_written : (tree : AnswerTree) (it : Integral) (n : ℕ) → n ≤ 5 → IsAnswerOver n tree → answer_value tree ≡ Ok it → IsIntegralWritten tree it
-unfolding answer_value
+integral_written : (tree : AnswerTree) (it : Integral) (n : ℕ) → n ≤ 5 → IsAnswerOver n tree → integral_value tree ≡ Ok it → IsIntegralWritten tree it
+unfolding integral_value
 integral_written tree it n small over e =
     let both = λ (part : Element) (logs : List LogPart). Ok (record { part = part; logs = logs }) in
     let part = passes (element_at 0 tree.part) (λ part. and_next (with_logs [] tree.logs) (both part)) it e in
@@ -211,19 +214,51 @@ integral_written tree it n small over e =
       logs = subst (AllZip IsLogWritten tree.logs) (sym on.is) on.written;
     })
 
+chain_written : (tree : AnswerTree) (r : RefutationTree) (partial : Integral) (chain : Chain) (n : ℕ) → n ≤ 5 → tree.refutation ≡ Some r → IsRefutationOver n r → IsIntegralWritten tree partial →
+    chain_value partial r ≡ Ok chain → IsChainWritten tree chain
+unfolding chain_value
+chain_written tree r partial chain n small some over w e =
+    let both = λ (rest trace : Element). Ok (record { partial = partial; rest = rest; level = r.end.level; end = Residue r.end.power trace }) in
+    let rest = passes (element_at 0 r.rest) (λ rest. and_next (element_at 0 r.end.trace) (both rest)) chain e in
+    let trace = passes (element_at 0 r.end.trace) (both rest.value) chain rest.after in
+    let is : (record { partial = partial; rest = rest.value; level = r.end.level; end = Residue r.end.power trace.value }) ≡ chain = cc in
+    rw (← is) (record {
+      tree = r;
+      is = some;
+      partial = w;
+      rest = element_written 0 r.rest n rest.value small over.rest rest.is;
+      level = refl;
+      end = (refl, element_written 0 r.end.trace n trace.value small over.end.trace trace.is);
+    })
+
+certificate_written : (tree : AnswerTree) (it : Certificate) (n : ℕ) → n ≤ 5 → IsAnswerOver n tree → answer_value tree ≡ Ok it → IsCertificateWritten tree it
+unfolding answer_value
+certificate_written tree it n small over e =
+    let partial = passes (integral_value tree) (λ it. certificate_value it tree.refutation) it e in
+    let w = integral_written tree partial.value n small over partial.is in
+    by_tree tree.refutation partial.value refl over.refutation w partial.after
+  where
+    by_tree : (r : Option RefutationTree) (partial : Integral) → tree.refutation ≡ r → IsSomeRefutationOver n r → IsIntegralWritten tree partial → certificate_value partial r ≡ Ok it → IsCertificateWritten tree it
+    by_tree None partial none o w h = let is : Certified partial ≡ it = cc in rw (← is) (none, w)
+    by_tree (Some r) partial some o w h = of (chain_value partial r) refl h
+      where
+        of : (value : Reading Chain) → chain_value partial r ≡ value → map_value Refuted value ≡ Ok it → IsCertificateWritten tree it
+        of (Ok chain) e k = let is : Refuted chain ≡ it = cc in rw (← is) (chain_written tree r partial chain n small some o w e)
+        of (Err fault) e k = absurd (cc)
+
 pub certified_is_written : (bytes : List ℕ) (program : CertifiedProgram) (certified : CertifiedValue) → IsCertifiedRead (whole_certified bytes) program →
     ((tree : CertifiedTree) → program ≡ certified_program tree → certified_value tree ≡ Ok certified) → IsCertifiedWritten bytes certified
 unfolding certified_value
 certified_is_written bytes program certified p value =
-    let with = λ (problem : ProblemValue) (it : Integral). Ok (record { problem = problem; certificate = Certified it; lines = p.tree.answer.lines }) in
+    let with = λ (problem : ProblemValue) (it : Certificate). Ok (record { problem = problem; certificate = it; lines = p.tree.answer.lines }) in
     let problem = passes (problem_value p.tree.problem) (λ problem. and_next (answer_value p.tree.answer) (with problem)) certified (value p.tree p.written) in
     let it = passes (answer_value p.tree.answer) (with problem.value) certified problem.after in
     let w = values_written p.tree.problem problem.value p.over.problem problem.is in
-    let is : (record { problem = problem.value; certificate = Certified it.value; lines = p.tree.answer.lines }) ≡ certified = cc in
+    let is : (record { problem = problem.value; certificate = it.value; lines = p.tree.answer.lines }) ≡ certified = cc in
     rw (← is) (record {
       tree = p.tree;
       read = p.is;
       tower = w.tower_is;
       integrand = w.integrand_is;
-      certificate = integral_written p.tree.answer it.value (length p.tree.problem.tower + 1) w.small p.over.answer it.is;
+      certificate = certificate_written p.tree.answer it.value (length p.tree.problem.tower + 1) w.small p.over.answer it.is;
     })

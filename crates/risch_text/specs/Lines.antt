@@ -1,12 +1,13 @@
 -- The lines of a file: the bytes at hand and their line, the lines that are passed over, and what has to stand in a line.
 use Rattle.std.specs.Prelude.{ℕ, ◌+◌, ◌≤◌, ◌^◌, ◌==◌, Bool, true, false, ◌||◌, cond, Option, None, Some, option_map, List, [], ◌∷◌, length, Ok, Err}
 use Rattle.risch_frac.specs.Fraction.{Fraction, whole}
-use Rattle.risch_expression.specs.Words.{is_blank, after_byte, after_word}
+use Rattle.std.specs.Option.{option_map_or}
+use Rattle.risch_expression.specs.Words.{is_blank, after_byte, after_word, Name, name, Numeral}
 use Rattle.risch_expression.specs.Fault.{fault_at, most_number, unexpected}
 use Rattle.risch_expression.specs.Results.{and_next, map_value}
 use Rattle.risch_expression.specs.Tree.{Tree}
-use Rattle.risch_expression.specs.Grammar.{Read, wanted_number, expression}
-use Rattle.risch_expression.specs.declared.fault.Cause.TheVariants.{Wide, Trailing}
+use Rattle.risch_expression.specs.Grammar.{Read, variable_named, wanted_number, expression}
+use Rattle.risch_expression.specs.declared.fault.Cause.TheVariants.{Wide, Name as UnknownName, Trailing}
 use Rattle.risch_expression.specs.declared.fault.SyntaxFault.{SyntaxFault}
 use Rattle.risch_expression.specs.declared.names.Names.{Names}
 
@@ -85,6 +86,22 @@ to_line_end a front = and_next (line_end front) (λ next. Ok (reached a next))
 -- a number of at most 2^127 - 1
 unfoldable pub number_of : LineRule Fraction
 number_of front = map_value (λ n. reached (whole n.value) (moved front n.rest)) (wanted_number 64 most_number Wide front.rest)
+
+-- a number of at most 65,535
+unfoldable pub small_number_of : LineRule ℕ
+small_number_of front = map_value (λ n. reached n.value (moved front n.rest)) (wanted_number 64 65535 Wide front.rest)
+
+-- the number of the variable that a name stands for, over x and so many monomials; another name is not known
+abbrev pub known_variable : ℕ → List ℕ → Name → Read Numeral
+known_variable monomials bytes found =
+    option_map_or (λ level. Ok (record { value = level; rest = found.rest })) (variable_named monomials found.text) (Err (fault_at bytes UnknownName))
+
+-- the variable that has to be named there
+unfoldable pub wanted_variable : ℕ → List ℕ → Read Numeral
+wanted_variable monomials bytes = option_map_or (known_variable monomials bytes) (name bytes) (Err (unexpected 64 bytes))
+
+unfoldable pub variable_of : ℕ → LineRule ℕ
+variable_of monomials front = map_value (λ v. reached v.value (moved front v.rest)) (wanted_variable monomials front.rest)
 
 -- an expression over these names
 unfoldable pub sum_of : Names → LineRule Tree

@@ -1,6 +1,6 @@
 -- What a problem that is read stands for: the written values of its lines.
 use Rattle.std.specs.List.{AllZip}
-use Rattle.std.specs.Prelude.{◌≡◌, ℕ, Bool, true, false, Option, Some, option_map, List, map, Ok}
+use Rattle.std.specs.Prelude.{◌≡◌, ℕ, Bool, true, false, Option, None, Some, option_map, List, map, Ok}
 use Rattle.risch_mean.specs.Element as mean
 use Rattle.risch_mean.specs.Tower as towers
 use Rattle.risch_mean.specs.Tower.{log, exp}
@@ -11,10 +11,13 @@ use Rattle.risch_rootsum.specs.Derivative.{is_linear, factor, argument}
 use Rattle.risch_rootsum.specs.declared.integral.LogPart.{LogPart}
 use Rattle.risch_rootsum.specs.declared.integral.Integral.{Integral}
 use Rattle.risch_cert.specs.declared.answer.Certificate.{Certificate}
-use Rattle.risch_cert.specs.declared.answer.Certificate.TheVariants.{Integral as Certified}
+use Rattle.risch_cert.specs.declared.answer.Certificate.TheVariants.{Integral as Certified, Refuted as Refutation}
+use Rattle.risch_cert.specs.declared.chain.Chain.{Chain}
+use Rattle.risch_cert.specs.declared.chain.End.{End}
+use Rattle.risch_cert.specs.declared.chain.End.TheVariants.{Residue}
 use Rattle.risch_expression.specs.Tree.{Tree, expression_of}
 use Rattle.risch_text.specs.File.{TowerLine, ProblemTree, whole_problem}
-use Rattle.risch_text.specs.Certified.{LogLine, log_line, sum_line, AnswerTree, CertifiedTree, whole_certified}
+use Rattle.risch_text.specs.Certified.{LogLine, log_line, sum_line, EndTree, RefutationTree, AnswerTree, CertifiedTree, whole_certified}
 use Rattle.risch_text.specs.Problem.{ProblemValue, CertifiedValue}
 use Rattle.risch_text.specs.Values.{factor_value, root_sum}
 use Rattle.risch_text.specs.declared.programs.Factor.{Factor}
@@ -63,8 +66,22 @@ pub record IsIntegralWritten (answer : AnswerTree) (it : Integral) : Type 0 wher
   pub part : written_value (expression_of answer.part) ≡ Some (meaning it.part)
   pub logs : AllZip IsLogWritten answer.logs it.logs
 
+-- the power of the line, and the trace
+abbrev pub IsEndWritten : EndTree → End → Type 0
+IsEndWritten tree (Residue power trace) = (power ≡ tree.power) × (written_value (expression_of tree.trace) ≡ Some (meaning trace))
+
+-- the partial integral, the rest, the level of the line `end`, and the end
+pub record IsChainWritten (answer : AnswerTree) (chain : Chain) : Type 0 where
+  pub tree : RefutationTree
+  pub is : answer.refutation ≡ Some tree
+  pub partial : IsIntegralWritten answer chain.partial
+  pub rest : written_value (expression_of tree.rest) ≡ Some (meaning chain.rest)
+  pub level : chain.level ≡ tree.end.level
+  pub end : IsEndWritten tree.end chain.end
+
 abbrev pub IsCertificateWritten : AnswerTree → Certificate → Type 0
-IsCertificateWritten answer (Certified it) = IsIntegralWritten answer it
+IsCertificateWritten answer (Certified it) = (answer.refutation ≡ None) × IsIntegralWritten answer it
+IsCertificateWritten answer (Refutation chain) = IsChainWritten answer chain
 
 -- the problem of the file, in the same way, and its certificate
 pub record IsCertifiedWritten (bytes : List ℕ) (certified : CertifiedValue) : Type 0 where

@@ -1,14 +1,16 @@
 -- The trees of a file as the code keeps them: each expression by its steps.
-use Rattle.std.specs.Prelude.{◌≡◌, ℕ, suc, ◌+◌, Bool, true, false, List, [], ◌∷◌, map, length, All}
+use Rattle.std.specs.Prelude.{◌≡◌, ℕ, suc, ◌+◌, ◌<◌, ◌≤◌, Bool, true, false, Option, None, Some, option_map, List, [], ◌∷◌, map, length, All}
 use Rattle.risch_expression.specs.Tree.{Tree, IsOver}
 use Rattle.risch_expression.specs.Program.{steps}
 use Rattle.risch_expression.specs.declared.program.Step.{Step}
 use Rattle.risch_text.specs.File.{TowerLine, ProblemTree}
-use Rattle.risch_text.specs.Certified.{LogLine, log_line, sum_line, AnswerTree, CertifiedTree}
+use Rattle.risch_text.specs.Certified.{LogLine, log_line, sum_line, EndTree, RefutationTree, AnswerTree, CertifiedTree}
 use Rattle.risch_text.specs.declared.programs.TowerProgram.{TowerProgram}
 use Rattle.risch_text.specs.declared.programs.ProblemProgram.{ProblemProgram}
 use Rattle.risch_text.specs.declared.programs.LogProgram.{LogProgram}
 use Rattle.risch_text.specs.declared.programs.LogProgram.TheVariants.{Log, Sum}
+use Rattle.risch_text.specs.declared.programs.EndProgram.{EndProgram}
+use Rattle.risch_text.specs.declared.programs.RefutationProgram.{RefutationProgram}
 use Rattle.risch_text.specs.declared.programs.AnswerProgram.{AnswerProgram}
 use Rattle.risch_text.specs.declared.programs.CertifiedProgram.{CertifiedProgram}
 
@@ -50,8 +52,14 @@ abbrev pub log_program : LogLine → LogProgram
 log_program (log_line c u) = Log c (steps u)
 log_program (sum_line r s start) = Sum (steps r) (steps s) start
 
+abbrev pub end_program : EndTree → EndProgram
+end_program e = record { level = e.level; power = e.power; trace = steps e.trace }
+
+abbrev pub refutation_program : RefutationTree → RefutationProgram
+refutation_program r = record { rest = steps r.rest; end = end_program r.end }
+
 abbrev pub answer_program : AnswerTree → AnswerProgram
-answer_program a = record { part = steps a.part; logs = map log_program a.logs; lines = a.lines }
+answer_program a = record { part = steps a.part; logs = map log_program a.logs; refutation = option_map refutation_program a.refutation; lines = a.lines }
 
 abbrev pub certified_program : CertifiedTree → CertifiedProgram
 certified_program t = record { problem = problem_program t.problem; answer = answer_program t.answer }
@@ -61,11 +69,39 @@ abbrev pub IsLogOver : ℕ → LogLine → Type 0
 IsLogOver n (log_line c u) = IsOver n false u
 IsLogOver n (sum_line r s start) = IsOver n true r × IsOver n true s
 
+-- the variable of an end is one of the first n, its power has 16 bits, and its trace is an expression over these variables
+pub record IsEndOver (n : ℕ) (e : EndTree) : Type 0 where
+  pub level : e.level < n
+  pub power : e.power ≤ 65535
+  pub trace : IsOver n false e.trace
+
+pub record IsRefutationOver (n : ℕ) (r : RefutationTree) : Type 0 where
+  pub rest : IsOver n false r.rest
+  pub end : IsEndOver n r.end
+
+-- where there is a refutation
+abbrev pub IsSomeRefutationOver : ℕ → Option RefutationTree → Type 0
+IsSomeRefutationOver n None = Unit {0}
+IsSomeRefutationOver n (Some r) = IsRefutationOver n r
+
+-- the lines of an answer besides its logarithms: `integral`, `part` and `end`, or `refuted`, `part`, `rest` and `end`
+abbrev pub other_lines : {A : Type 0} → Option A → ℕ
+other_lines None = 3
+other_lines (Some refutation) = 4
+
+-- the part and the logarithms of an answer so far, with the numbers of their lines and of the first line
+pub record IsPartialOver (n : ℕ) (a : AnswerTree) : Type 0 where
+  pub unrefuted : a.refutation ≡ None
+  pub part : IsOver n false a.part
+  pub logs : All (IsLogOver n) a.logs
+  pub numbered : length a.lines ≡ length a.logs + 2
+
 -- all expressions of an answer are, and there is one number for each line
 pub record IsAnswerOver (n : ℕ) (a : AnswerTree) : Type 0 where
   pub part : IsOver n false a.part
   pub logs : All (IsLogOver n) a.logs
-  pub numbered : length a.lines ≡ length a.logs + 3
+  pub refutation : IsSomeRefutationOver n a.refutation
+  pub numbered : length a.lines ≡ length a.logs + other_lines a.refutation
 
 pub record IsCertifiedOver (t : CertifiedTree) : Type 0 where
   pub problem : IsProblemOver t.problem
@@ -76,10 +112,24 @@ abbrev pub IsLogProgramOver : ℕ → LogProgram → Type 0
 IsLogProgramOver n (Log c u) = IsProgramOver n false u
 IsLogProgramOver n (Sum r s start) = IsProgramOver n true r × IsProgramOver n true s
 
+pub record IsEndProgramOver (n : ℕ) (e : EndProgram) : Type 0 where
+  pub level : e.level < n
+  pub power : e.power ≤ 65535
+  pub trace : IsProgramOver n false e.trace
+
+pub record IsRefutationProgramOver (n : ℕ) (r : RefutationProgram) : Type 0 where
+  pub rest : IsProgramOver n false r.rest
+  pub end : IsEndProgramOver n r.end
+
+abbrev pub IsSomeRefutationProgramOver : ℕ → Option RefutationProgram → Type 0
+IsSomeRefutationProgramOver n None = Unit {0}
+IsSomeRefutationProgramOver n (Some r) = IsRefutationProgramOver n r
+
 pub record IsAnswerProgramOver (n : ℕ) (a : AnswerProgram) : Type 0 where
   pub part : IsProgramOver n false a.part
   pub logs : All (IsLogProgramOver n) a.logs
-  pub numbered : length a.lines ≡ length a.logs + 3
+  pub refutation : IsSomeRefutationProgramOver n a.refutation
+  pub numbered : length a.lines ≡ length a.logs + other_lines a.refutation
 
 pub record IsCertifiedProgramOver (t : CertifiedProgram) : Type 0 where
   pub problem : IsProblemProgramOver t.problem

@@ -1,4 +1,4 @@
--- What a problem file with a printed integral is read as, with places as offsets from its first byte.
+-- What a problem file with a printed answer is read as, with places as offsets from its first byte.
 use Rattle.std.specs.Prelude.{◌≡◌, ℕ, ◌-◌, Option, None, Some, List, length, Ok, Err}
 use Rattle.risch_text.specs.Certified.{whole_certified}
 use Rattle.risch_text.specs.Problem.{CertifiedValue}

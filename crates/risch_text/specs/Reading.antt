@@ -2,6 +2,7 @@
 use Rattle.std.specs.Prelude.{◌≡◌, ℕ, ◌+◌, ◌<◌, ◌^◌, Bool, true, false, ⊤, Option, None, Some, List, map, length, All, Result, Ok, Err}
 use Rattle.risch_expression.specs.Tree.{Tree, IsOver}
 use Rattle.risch_expression.specs.Program.{steps}
+use Rattle.risch_expression.specs.Words.{Numeral}
 use Rattle.risch_expression.specs.Grammar.{Read}
 use Rattle.risch_expression.specs.declared.fault.ReadFault as reading
 use Rattle.risch_expression.specs.declared.fault.SyntaxFault.{SyntaxFault}
@@ -9,15 +10,16 @@ use Rattle.risch_expression.specs.declared.names.Names.{Names}
 use Rattle.risch_expression.specs.declared.program.Step.{Step}
 use Rattle.risch_text.specs.Lines.{Front, Reached, reached}
 use Rattle.risch_text.specs.File.{TowerLine, ProblemTree}
-use Rattle.risch_text.specs.Certified.{LogLine, LogLines, AnswerTree, CertifiedTree}
+use Rattle.risch_text.specs.Certified.{LogLine, LogLines, EndTree, AnswerTree, CertifiedTree}
 use Rattle.risch_text.specs.Values.{Reading}
-use Rattle.risch_text.specs.Programs.{tower_program, problem_program, AreOver, IsProblemOver, log_program, answer_program, certified_program, IsLogOver, IsAnswerOver, IsCertifiedOver}
+use Rattle.risch_text.specs.Programs.{tower_program, problem_program, AreOver, IsProblemOver, log_program, end_program, answer_program, certified_program, IsLogOver, IsEndOver, IsPartialOver, IsAnswerOver, IsCertifiedOver}
 use Rattle.risch_text.specs.declared.fault.Fault.{Fault}
 use Rattle.risch_text.specs.declared.fault.Fault.TheVariants.{Syntax, Refused, Stopped, Memory}
 use Rattle.risch_text.specs.declared.programs.TowerProgram.{TowerProgram}
 use Rattle.risch_text.specs.declared.programs.ProblemProgram.{ProblemProgram}
 use Rattle.risch_text.specs.declared.programs.LogProgram.{LogProgram}
 use Rattle.risch_text.specs.declared.programs.LogPrograms.{LogPrograms}
+use Rattle.risch_text.specs.declared.programs.EndProgram.{EndProgram}
 use Rattle.risch_text.specs.declared.programs.AnswerProgram.{AnswerProgram}
 use Rattle.risch_text.specs.declared.programs.CertifiedProgram.{CertifiedProgram}
 
@@ -36,6 +38,11 @@ Moves (Err fault) rule new = rule ≡ Err fault
 abbrev pub MovesTo : {A : Type 0} → Result A SyntaxFault → Read (Reached A) → Front → Type 0
 MovesTo (Ok a) rule new = rule ≡ Ok (reached a new)
 MovesTo (Err fault) rule new = rule ≡ Err fault
+
+-- a variable is taken
+abbrev pub TakesVariable : Result ℕ SyntaxFault → Read Numeral → List ℕ → Type 0
+TakesVariable (Ok level) rule new = rule ≡ Ok (record { value = level; rest = new })
+TakesVariable (Err fault) rule new = rule ≡ Err fault
 
 -- an expression over these names is read, with these steps
 pub record IsSum (names : Names) (rule : Read (Reached Tree)) (program : List Step) (front : Front) : Type 0 where
@@ -124,12 +131,41 @@ pub record AreLogLines (n before : ℕ) (rule : Read (Reached LogLines)) (progra
   pub over : All (IsLogOver (n + 1)) lines.logs
   pub numbered : length lines.lines ≡ length lines.logs + before
 
--- the lines of an answer are read
-pub record IsAnswerRead (n : ℕ) (rule : Read (Reached AnswerTree)) (program : AnswerProgram) (front : Front) : Type 0 where
+-- the end of a refutation is read
+pub record IsEndRead (n : ℕ) (rule : Read (Reached EndTree)) (program : EndProgram) (front : Front) : Type 0 where
+  pub tree : EndTree
+  pub is : rule ≡ Ok (reached tree front)
+  pub written : program ≡ end_program tree
+  pub over : IsEndOver (n + 1) tree
+
+-- the same where an end may be one that is not yet read
+pub record IsSomeEnd (n : ℕ) (rule : Read (Reached (Option EndTree))) (program : EndProgram) (front : Front) : Type 0 where
+  pub tree : EndTree
+  pub is : rule ≡ Ok (reached (Some tree) front)
+  pub written : program ≡ end_program tree
+  pub over : IsEndOver (n + 1) tree
+
+abbrev pub IsNextEnd : ℕ → Read (Reached (Option EndTree)) → Option EndProgram → Front → Type 0
+IsNextEnd n rule (Some program) front = IsSomeEnd n rule program front
+IsNextEnd n rule None front = rule ≡ Ok (reached None front)
+
+-- the part and the logarithms of an answer are read, behind its first line
+pub record IsPartialRead (n : ℕ) (rule : Read (Reached AnswerTree)) (program : AnswerProgram) (front : Front) : Type 0 where
   pub tree : AnswerTree
   pub is : rule ≡ Ok (reached tree front)
   pub written : program ≡ answer_program tree
+  pub over : IsPartialOver (n + 1) tree
+
+-- the lines of an answer are read
+pub record IsAnswerRead (n : ℕ) (rule : Read (Reached (Option AnswerTree))) (program : AnswerProgram) (front : Front) : Type 0 where
+  pub tree : AnswerTree
+  pub is : rule ≡ Ok (reached (Some tree) front)
+  pub written : program ≡ answer_program tree
   pub over : IsAnswerOver (n + 1) tree
+
+abbrev pub IsSomeAnswer : ℕ → Read (Reached (Option AnswerTree)) → Option AnswerProgram → Front → Type 0
+IsSomeAnswer n rule (Some program) front = IsAnswerRead n rule program front
+IsSomeAnswer n rule None front = rule ≡ Ok (reached None front)
 
 -- a whole file is read
 pub record IsCertifiedRead (rule : Read (Option CertifiedTree)) (program : CertifiedProgram) : Type 0 where

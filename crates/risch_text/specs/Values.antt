@@ -15,7 +15,10 @@ use Rattle.risch_tower.specs.declared.level.Monomial.TheVariants.{Log, Exp}
 use Rattle.risch_tower.specs.declared.fault.PushFault as push
 use Rattle.risch_rootsum.specs.declared.integral.LogPart.{LogPart}
 use Rattle.risch_rootsum.specs.declared.integral.Integral.{Integral}
-use Rattle.risch_cert.specs.declared.answer.Certificate.TheVariants.{Integral as Certified}
+use Rattle.risch_cert.specs.declared.answer.Certificate.{Certificate}
+use Rattle.risch_cert.specs.declared.answer.Certificate.TheVariants.{Integral as Certified, Refuted as Refutation}
+use Rattle.risch_cert.specs.declared.chain.Chain.{Chain}
+use Rattle.risch_cert.specs.declared.chain.End.TheVariants.{Residue}
 use Rattle.risch_expression.specs.Results.{and_next, map_value}
 use Rattle.risch_expression.specs.Tree.{Tree}
 use Rattle.risch_expression.specs.Grammar.{Read}
@@ -24,7 +27,7 @@ use Rattle.risch_expression.specs.declared.fault.Cause.TheVariants as cause
 use Rattle.risch_expression.specs.declared.fault.ReadFault as reading
 use Rattle.risch_expression.specs.declared.fault.ValueFault as value
 use Rattle.risch_text.specs.File.{TowerLine, ProblemTree}
-use Rattle.risch_text.specs.Certified.{LogLine, log_line, sum_line, AnswerTree, CertifiedTree}
+use Rattle.risch_text.specs.Certified.{LogLine, log_line, sum_line, RefutationTree, AnswerTree, CertifiedTree}
 use Rattle.risch_text.specs.Problem.{ProblemValue, CertifiedValue}
 use Rattle.risch_text.specs.declared.programs.Divisor.{Divisor}
 use Rattle.risch_text.specs.declared.programs.Factor.{Factor}
@@ -152,18 +155,34 @@ with_logs parts (l ∷ lines) = and_next (log_value l) (λ part. with_logs (part
 
 -- ---- answers
 -- the part, and then the logarithms
-unfoldable pub answer_value : AnswerTree → Reading Integral
-answer_value tree =
+unfoldable pub integral_value : AnswerTree → Reading Integral
+integral_value tree =
     and_next (element_at 0 tree.part) (λ part.
     and_next (with_logs [] tree.logs) (λ logs.
     Ok (record { part = part; logs = logs })))
+
+-- the rest, and then the trace
+unfoldable pub chain_value : Integral → RefutationTree → Reading Chain
+chain_value partial tree =
+    and_next (element_at 0 tree.rest) (λ rest.
+    and_next (element_at 0 tree.end.trace) (λ trace.
+    Ok (record { partial = partial; rest = rest; level = tree.end.level; end = Residue tree.end.power trace })))
+
+-- the integral alone, or with a refutation
+abbrev pub certificate_value : Integral → Option RefutationTree → Reading Certificate
+certificate_value it None = Ok (Certified it)
+certificate_value it (Some tree) = map_value Refutation (chain_value it tree)
+
+-- the integral, and then the refutation
+unfoldable pub answer_value : AnswerTree → Reading Certificate
+answer_value tree = and_next (integral_value tree) (λ it. certificate_value it tree.refutation)
 
 -- the problem, and then the answer
 unfoldable pub certified_value : CertifiedTree → Reading CertifiedValue
 certified_value tree =
     and_next (problem_value tree.problem) (λ problem.
-    and_next (answer_value tree.answer) (λ integral.
-    Ok (record { problem = problem; certificate = Certified integral; lines = tree.answer.lines })))
+    and_next (answer_value tree.answer) (λ certificate.
+    Ok (record { problem = problem; certificate = certificate; lines = tree.answer.lines })))
 
 -- none where the answer is not yet read
 abbrev pub certified_if_read : Option CertifiedTree → Reading (Option CertifiedValue)

@@ -1,15 +1,20 @@
-//! The lines of a printed integral.
+//! The lines of a printed answer.
 
 ghost use Rattle.std.specs.Prelude.{◌≡◌, ◌+◌, ◌<◌, ◌≤◌, ◌^◌, [], ◌∷◌, ◌++◌, length, IfOk, IfErr, OnOk, OnErr};
 ghost use Rattle.risch_frac.specs.Fraction as fraction;
 ghost use Rattle.risch_expression.specs.Reading.{IsFaultOf};
 ghost use Rattle.risch_text.specs.Lines.{InFile};
 ghost use Rattle.risch_text.specs.Certified as spec;
-ghost use Rattle.risch_text.specs.Reading.{MovesTo, IsLogLine, IsNextLog, IsNextFault, AreLogLines, IsAnswerRead, IsWholeCertified};
+ghost use Rattle.risch_text.specs.Certified.{AnswerTree};
+ghost use Rattle.risch_text.specs.Programs.{answer_program, IsPartialOver};
+ghost use Rattle.risch_text.specs.Reading.{MovesTo, IsLogLine, IsNextLog, IsNextFault, AreLogLines, IsPartialRead, IsAnswerRead, IsSomeAnswer, IsWholeCertified};
 
 use crate::file::{monomials, problem_lines};
 use crate::lines::Lines;
-use crate::programs::{AnswerProgram, CertifiedProgram, Divisor, Factor, LogProgram, LogPrograms};
+use crate::programs::{
+    AnswerProgram, CertifiedProgram, Divisor, Factor, LogProgram, LogPrograms, RefutationProgram,
+};
+use crate::refutation::end_line;
 use risch_elem::{Items, NumberList};
 use risch_expression::{Names, ReadFault, SyntaxFault};
 use risch_frac::Frac;
@@ -147,31 +152,126 @@ fn log_lines(
     Ok(programs)
 }
 
-/// The lines of a printed integral, over n monomials.
-#[tactic(auto, using(crate::proofs::AnswerLines::bare_line_low, crate::proofs::AnswerLines::expression_line_low), unfolding(crate::specs::Certified::answer_lines))]
-fn answer_lines(alloc: Global, lines: &mut Lines<'_>, n: u8) -> Result<AnswerProgram, ReadFault>
+/// Whether the first line of an answer is `refuted`, and not `integral`.
+#[tactic(auto, using(crate::proofs::AnswerLines::word_low, crate::proofs::AnswerLines::bare_line_low), unfolding(crate::specs::Certified::is_refuted))]
+fn is_refuted(lines: &mut Lines<'_>) -> Result<bool, SyntaxFault>
     requires { InFile lines.old }
-    ensures read { IfOk result (λ program. IsAnswerRead n (spec.answer_lines n lines.old) program lines.new) }
+    ensures moves { MovesTo result (spec.is_refuted lines.old) lines.new }
+    ensures low { OnOk result (lines.old.line < 2 ^ 32) }
+    ensures in_file { OnOk result (InFile lines.new) }
+{
+    if lines.take_word(b"integral") {
+        lines.line_end()?;
+        return Ok(false);
+    }
+    lines.bare_line(b"refuted")?;
+    Ok(true)
+}
+
+/// The part and the logarithms of an answer, over n monomials, behind its first line, which has this number.
+#[tactic(auto, using(crate::proofs::AnswerLines::expression_line_low, crate::proofs::AnswerLines::partial_read, crate::proofs::AnswerLines::part_fault, crate::proofs::AnswerLines::partial_fault))]
+fn partial_lines(
+    alloc: Global,
+    lines: &mut Lines<'_>,
+    n: u8,
+    first: u32,
+) -> Result<AnswerProgram, ReadFault>
+    requires { InFile lines.old }
+    ensures read { IfOk result (λ program. IsPartialRead n (spec.partial_lines n first lines.old) program lines.new) }
+    ensures fault { IfErr result (λ fault. IsFaultOf fault (spec.partial_lines n first lines.old)) }
+    ensures in_file { OnOk result (InFile lines.new) }
+{
+    let second = lines.line();
+    let part = lines.expression_line(alloc, b"part", monomials(n))?;
+    let mut numbers = NumberList::new(alloc);
+    numbers.push(first)?;
+    numbers.push(second as u32)?;
+    let LogPrograms { logs, lines } = log_lines(alloc, lines, n, numbers)?;
+    Ok(AnswerProgram {
+        part,
+        logs,
+        refutation: None,
+        lines,
+    })
+}
+
+/// An answer so far, and the end of an integral, over n monomials.
+#[tactic(auto, using(crate::proofs::AnswerLines::bare_line_low))]
+fn integral_end(
+    lines: &mut Lines<'_>,
+    n: u8,
+    mut partial: AnswerProgram,
+) -> Result<AnswerProgram, ReadFault>
+    requires { InFile lines.old }
+    ensures read { (tree : AnswerTree) → partial ≡ answer_program tree → IsPartialOver (n + 1) tree → IfOk result (λ program. IsAnswerRead n (spec.integral_end tree lines.old) program lines.new) }
+    ensures fault { (tree : AnswerTree) → IfErr result (λ fault. IsFaultOf fault (spec.integral_end tree lines.old)) }
+    ensures in_file { OnOk result (InFile lines.new) }
+{
+    let last = lines.line();
+    lines.bare_line(b"end")?;
+    partial.lines.push(last as u32)?;
+    Ok(partial)
+}
+
+/// An answer so far, and the rest and the end of a refutation, over n monomials; `None` where it is not yet read.
+#[tactic(auto, using(crate::proofs::AnswerLines::expression_line_low))]
+fn refutation_end(
+    alloc: Global,
+    lines: &mut Lines<'_>,
+    n: u8,
+    partial: AnswerProgram,
+) -> Result<Option<AnswerProgram>, ReadFault>
+    requires { InFile lines.old }
+    ensures read { (tree : AnswerTree) → partial ≡ answer_program tree → IsPartialOver (n + 1) tree → IfOk result (λ program. IsSomeAnswer n (spec.refutation_end n tree lines.old) program lines.new) }
+    ensures fault { (tree : AnswerTree) → IfErr result (λ fault. IsFaultOf fault (spec.refutation_end n tree lines.old)) }
+    ensures in_file { OnOk result (InFile lines.new) }
+{
+    let AnswerProgram {
+        part,
+        logs,
+        refutation: _,
+        lines: mut numbers,
+    } = partial;
+    let first = lines.line();
+    let rest = lines.expression_line(alloc, b"rest", monomials(n))?;
+    let last = lines.line();
+    let Some(end) = end_line(alloc, lines, n)? else {
+        return Ok(None);
+    };
+    numbers.push(first as u32)?;
+    numbers.push(last as u32)?;
+    Ok(Some(AnswerProgram {
+        part,
+        logs,
+        refutation: Some(RefutationProgram { rest, end }),
+        lines: numbers,
+    }))
+}
+
+/// The lines of a printed answer, over n monomials; `None` where it is not yet read.
+#[tactic(auto, using(crate::proofs::AnswerLines::first_line_fault, crate::proofs::AnswerLines::partial_lines_fault, crate::proofs::AnswerLines::refuted_answer, crate::proofs::AnswerLines::refuted_answer_fault, crate::proofs::AnswerLines::integral_answer, crate::proofs::AnswerLines::integral_answer_fault))]
+fn answer_lines(
+    alloc: Global,
+    lines: &mut Lines<'_>,
+    n: u8,
+) -> Result<Option<AnswerProgram>, ReadFault>
+    requires { InFile lines.old }
+    ensures read { IfOk result (λ program. IsSomeAnswer n (spec.answer_lines n lines.old) program lines.new) }
     ensures fault { IfErr result (λ fault. IsFaultOf fault (spec.answer_lines n lines.old)) }
     ensures in_file { OnOk result (InFile lines.new) }
 {
-    let mut numbers = NumberList::new(alloc);
     let first = lines.line();
-    lines.bare_line(b"integral")?;
-    numbers.push(first as u32)?;
-    let second = lines.line();
-    let part = lines.expression_line(alloc, b"part", monomials(n))?;
-    numbers.push(second as u32)?;
-    let mut programs = log_lines(alloc, lines, n, numbers)?;
-    let last = lines.line();
-    lines.bare_line(b"end")?;
-    programs.lines.push(last as u32)?;
-    let LogPrograms { logs, lines } = programs;
-    Ok(AnswerProgram { part, logs, lines })
+    let refuted = is_refuted(lines)?;
+    let partial = partial_lines(alloc, lines, n, first as u32)?;
+    if refuted {
+        return refutation_end(alloc, lines, n, partial);
+    }
+    let answer = integral_end(lines, n, partial)?;
+    Ok(Some(answer))
 }
 
-/// A file that holds a problem, its printed integral, and nothing more; `None` where the answer to the problem begins with `refuted`.
-#[tactic(auto, using(crate::proofs::WholeFiles::problem_fault, crate::proofs::WholeFiles::not_yet, crate::proofs::WholeFiles::answer_fault, crate::proofs::WholeFiles::end_fault, crate::proofs::WholeFiles::certified_read))]
+/// A file that holds a problem, its printed answer, and nothing more; `None` where the answer is not yet read.
+#[tactic(auto, using(crate::proofs::WholeFiles::problem_fault, crate::proofs::WholeFiles::answer_unread, crate::proofs::WholeFiles::answer_fault, crate::proofs::WholeFiles::end_fault, crate::proofs::WholeFiles::certified_read))]
 pub(crate) fn whole_certified(
     alloc: Global,
     bytes: &[u8],
@@ -182,10 +282,9 @@ pub(crate) fn whole_certified(
 {
     let mut lines = Lines::start(bytes);
     let problem = problem_lines(alloc, &mut lines)?;
-    if lines.take_word(b"refuted") {
+    let Some(answer) = answer_lines(alloc, &mut lines, problem.tower.len() as u8)? else {
         return Ok(None);
-    }
-    let answer = answer_lines(alloc, &mut lines, problem.tower.len() as u8)?;
+    };
     lines.finish()?;
     Ok(Some(CertifiedProgram { problem, answer }))
 }

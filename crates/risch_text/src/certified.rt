@@ -1,4 +1,4 @@
-//! Problem files with a printed integral: a problem, and a certificate.
+//! Problem files with a printed answer: a problem, and a certificate.
 
 use crate::fault::{Fault, Refusal};
 use crate::problem::Problem;
@@ -7,9 +7,9 @@ use risch_elem::{NumberList, Stop};
 use risch_expression::Cause;
 use std::marker::Model;
 
-/// A problem, a certificate of an integral of its integrand, and the number of each line of the certificate, in their order.
+/// A problem, a certificate of an answer to its integrand, and the number of each line of the certificate, in their order.
 ///
-/// The part of the certificate and the arguments of its logarithms lie in the tower. Of each logarithm R is monic, of degree m from 1 to 255, and S has a degree below m and a last
+/// The part of the certificate, the arguments of its logarithms, and the rest and the trace of a refutation lie in the tower, and the level of a refutation is at most its height. Of each logarithm R is monic, of degree m from 1 to 255, and S has a degree below m and a last
 /// coefficient other than 0.
 #[derive(Drop)]
 pub struct Certified {
@@ -39,12 +39,12 @@ impl Certified {
     }
 }
 
-/// The answer for a problem file with a printed integral. A place is an offset in bytes.
+/// The answer for a problem file with a printed answer. A place is an offset in bytes.
 #[derive(Drop)]
 pub enum ReadCertified {
     /// The problem and its certificate.
     Certified(Certified),
-    /// The problem has no fault of syntax, and the next line begins with `refuted`.
+    /// The problem and the answer up to and with the line `rest` of a refutation have no fault of syntax, and the next line begins with `equation`, or with `end` and `exponent` or `degree`.
     NotYet,
     /// The first fault of syntax.
     Syntax { at: u32, cause: Cause },

@@ -6,7 +6,7 @@ ghost use Rattle.risch_expression.specs.Words as words;
 ghost use Rattle.risch_expression.specs.Reading.{IsFaultOf};
 ghost use Rattle.risch_text.specs.Lines as spec;
 ghost use Rattle.risch_text.specs.Lines.{after_lines, behind_word, behind_byte, InFile};
-ghost use Rattle.risch_text.specs.Reading.{Passes, Moves, MovesTo, IsSum};
+ghost use Rattle.risch_text.specs.Reading.{Passes, Moves, MovesTo, TakesVariable, IsSum};
 
 use risch_expression::{
     Cause, MOST_NUMBER, MOST_OPEN, Names, Program, ReadFault, SyntaxFault, Words, read_sum,
@@ -14,6 +14,9 @@ use risch_expression::{
 use risch_frac::Frac;
 use std::alloc::Global;
 use std::marker::Model;
+
+/// The most that a small number may be.
+const MOST_SMALL_NUMBER: u128 = 65_535;
 
 /// The bytes at hand, past blanks; the number of their line, from 1; and how many bytes were left at the first byte of that line.
 #[derive(Drop)]
@@ -176,6 +179,29 @@ impl<'a> Lines<'a> {
         Ok(whole(number))
     }
 
+    /// The number of at most 65,535 that has to stand here.
+    #[tactic(auto, using(crate::proofs::Fronts::small_number_read, crate::proofs::Fronts::small_number_fault, crate::proofs::Fronts::small_number_in_file))]
+    pub(crate) fn small_number(&mut self) -> Result<u16, SyntaxFault>
+        requires { InFile self.old }
+        ensures moves { MovesTo result (spec.small_number_of self.old) self.new }
+        ensures in_file { OnOk result (InFile self.new) }
+    {
+        let number = self
+            .words
+            .want_number(MOST_OPEN, MOST_SMALL_NUMBER, Cause::Wide)?;
+        Ok(number as u16)
+    }
+
+    /// The number of the variable that has to be named here: x, or one of so many monomials.
+    pub(crate) fn variable(&mut self, monomials: u8) -> Result<u8, SyntaxFault>
+        requires { InFile self.old }
+        ensures moves { MovesTo result (spec.variable_of monomials self.old) self.new }
+        ensures low { IfOk result (λ level. level ≤ monomials) }
+        ensures in_file { OnOk result (InFile self.new) }
+    {
+        take_variable(&mut self.words, monomials)
+    }
+
     /// The steps of the expression over these names that has to stand here.
     #[tactic(auto, using(crate::proofs::Fronts::sum_read, crate::proofs::Fronts::sum_fault, crate::proofs::Fronts::sum_in_file))]
     pub(crate) fn sum(&mut self, alloc: Global, names: Names) -> Result<Program, ReadFault>
@@ -229,6 +255,23 @@ impl<'a> Lines<'a> {
         }
         Ok(())
     }
+}
+
+// The number of the variable that has to be named at the front of the bytes: x, or one of so many monomials.
+#[tactic(auto, using(crate::proofs::Fronts::named_low), unfolding(crate::specs::Lines::wanted_variable))]
+fn take_variable(words: &mut Words<'_>, monomials: u8) -> Result<u8, SyntaxFault>
+    ensures takes { TakesVariable result (spec.wanted_variable monomials words.old) words.new }
+    ensures low { IfOk result (λ level. level ≤ monomials) }
+{
+    let unknown = words.fault(Cause::Name);
+    let Some(name) = words.take_name() else {
+        return Err(words.unexpected(MOST_OPEN));
+    };
+    let names = Names {
+        monomials,
+        with_z: false,
+    };
+    names.variable(name).ok_or(unknown)
 }
 
 // Whether a byte other than byte 10 is passed over: each byte of a comment, and else a blank, which is a space, a tab, or a byte 13 directly before byte 10.

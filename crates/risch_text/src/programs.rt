@@ -49,11 +49,27 @@ pub(crate) struct LogPrograms {
     pub lines: NumberList,
 }
 
-/// The steps of a part, logarithms, and the numbers of the lines.
+/// An end of a refutation in residues: the number of a variable, a power, and the steps of a trace.
+#[derive(Drop)]
+pub(crate) struct EndProgram {
+    pub level: u8,
+    pub power: u16,
+    pub trace: Program,
+}
+
+/// The steps of a rest, and an end.
+#[derive(Drop)]
+pub(crate) struct RefutationProgram {
+    pub rest: Program,
+    pub end: EndProgram,
+}
+
+/// The steps of a part, logarithms, a refutation where the answer is one, and the numbers of the lines.
 #[derive(Drop)]
 pub(crate) struct AnswerProgram {
     pub part: Program,
     pub logs: Items<LogProgram>,
+    pub refutation: Option<RefutationProgram>,
     pub lines: NumberList,
 }
 

@@ -60,16 +60,18 @@ fn certified(alloc: Global, bytes: &[u8]) -> Result<Option<Certified>, Fault>
     Ok(Some(certified))
 }
 
-/// The problem of a file and the certificate that follows it: the lines of [`read_problem`], and then `integral`, `part E`, any number of lines `log C of U` and `sum R of S`, and `end`.
+/// The problem of a file and the certificate that follows it: the lines of [`read_problem`], and then `integral`, `part E`, any number of lines `log C of U` and `sum R of S`, and `end`;
+/// or `refuted`, the part and the logarithms, `rest E`, and `end residue of V power N trace E`.
 ///
-/// `NotYet` exactly where the lines of the problem have no fault of syntax and the next line begins with `refuted`. Else the first fault of syntax in the whole file comes before everything
+/// `NotYet` exactly where the lines of the problem, and those of a refutation up to and with `rest`, have no fault of syntax and the next line begins with `equation`, or with `end` and
+/// `exponent` or `degree`. Else the first fault of syntax in the whole file comes before everything
 /// else; then what comes first, line by line: what [`read_problem`] tells, a division by 0 in a factor C, or R and S of the wrong shape. `Memory` for want of memory, about which nothing is said.
 #[tactic(auto, using(crate::proofs::Answers::certificate_read, crate::proofs::Answers::certificate_told))]
 pub fn read_certified(alloc: Global, bytes: &[u8]) -> ReadCertified
     requires { length bytes.now < 2 ^ 32 }
     // The answer of the grammar and of the evaluation, with their places.
     ensures read { IsCertifiedAs result (certificates.read_certified bytes.now) }
-    // The monomials, the integrand, the part and the arguments of the logarithms are the written values of the lines.
+    // The monomials, the integrand, the part, the arguments of the logarithms, the rest and the trace are the written values of the lines.
     ensures written { IfCertified result (IsCertifiedWritten bytes.now) }
 {
     ReadCertified::of(bytes.len() as u32, certified(alloc, bytes))

@@ -8,18 +8,18 @@ returns-in_err-problem c =
     let p = err_from_is_err_and c.from_residual.result c.from_residual.ensures.1 in
     rw (p.1, p.2) (λ tree e. problem_ends tree c.in_err-problem.field-0.0 (c.in_err-problem.ensures.value tree.problem (ap (λ r. r.problem) e)))
 
-pub returns-in_err-integral : goal.returns-in_err-integral
-returns-in_err-integral c =
-    let p = err_from_is_err_and c.from_residual-in_err-integral.result c.from_residual-in_err-integral.ensures.1 in
-    rw (p.1, p.2) (λ tree e. answer_ends tree c.in_ok-problem.problem c.in_err-integral.field-0.0
+pub returns-in_err-certificate : goal.returns-in_err-certificate
+returns-in_err-certificate c =
+    let p = err_from_is_err_and c.from_residual-in_err-certificate.result c.from_residual-in_err-certificate.ensures.1 in
+    rw (p.1, p.2) (λ tree e. answer_ends tree c.in_ok-problem.problem c.in_err-certificate.field-0.0
     (c.in_ok-problem.ensures.value tree.problem (ap (λ r. r.problem) e))
-    (c.in_err-integral.ensures.value tree.answer (ap (λ r. r.answer) e)))
+    (c.in_err-certificate.ensures.value tree.answer (ap (λ r. r.answer) e)))
 
 pub invariant_of-result : goal.invariant_of-result
-invariant_of-result c = certificate_formed c.args.program c.in_ok-problem.problem c.in_ok-integral.integral c.requires c.in_ok-problem.ensures.height c.in_ok-integral.ensures.form c.in_ok-integral.ensures.count
+invariant_of-result c = certificate_formed c.args.program c.in_ok-problem.problem c.in_ok-certificate.certificate c.requires c.in_ok-problem.ensures.height c.in_ok-certificate.ensures.form c.in_ok-certificate.ensures.count
 
 pub returns : goal.returns
-returns c = λ tree e. certified_is tree c.in_ok-problem.problem c.in_ok-integral.integral c.args.program.answer.lines
+returns c = λ tree e. certified_is tree c.in_ok-problem.problem c.in_ok-certificate.certificate c.args.program.answer.lines
     (c.in_ok-problem.ensures.value tree.problem (ap (λ r. r.problem) e))
-    (c.in_ok-integral.ensures.value tree.answer (ap (λ r. r.answer) e))
+    (c.in_ok-certificate.ensures.value tree.answer (ap (λ r. r.answer) e))
     (ap (λ r. r.answer.lines) e)

@@ -1,6 +1,6 @@
 use Rattle.std.proofs.Common.{◌∙◌, ap}
 use Rattle.std.proofs.lemmas.Result.{err_from_is_err_and}
-use Rattle.risch_text.proofs.CertifiedValues.{part_ends, logs_end, answer_is}
+use Rattle.risch_text.proofs.CertifiedValues.{part_ends, logs_end, integral_is}
 use Rattle.risch_text.proofs.certificate.integral_of.Goals as goal
 
 pub returns-in_err-part-clause-value : goal.returns-in_err-part-clause-value
@@ -16,7 +16,7 @@ returns-in_err-logs-clause-value c =
     (c.in_err-logs.ensures.value tree.logs (c.as_slice-2.ensures ∙ ap (λ r. r.logs) e)))
 
 pub returns-clause-value : goal.returns-clause-value
-returns-clause-value c = λ tree e. answer_is tree c.in_ok-part.part c.in_ok-logs.logs
+returns-clause-value c = λ tree e. integral_is tree c.in_ok-part.part c.in_ok-logs.logs
     (c.in_ok-part.ensures.value tree.part (c.as_slice.ensures ∙ ap (λ r. r.part) e))
     (c.in_ok-logs.ensures.value tree.logs (c.as_slice-2.ensures ∙ ap (λ r. r.logs) e))
 
