@@ -108,6 +108,10 @@ print_below (suc n) e =
 unfoldable pub print_element : Element → List ℕ
 print_element e = (print_below 5 e).text
 
+-- a polynomial over the elements in the variable of a level, with these coefficients from exponent 0
+unfoldable pub print_in_variable : ℕ → List Element → List ℕ
+print_in_variable level p = print_polynomial (print_below 5) (variable_name level) p
+
 -- a polynomial in z over the elements, with these coefficients from exponent 0
 unfoldable pub print_in_z : List Element → List ℕ
 print_in_z p = print_polynomial (print_below 5) (codes "z") p

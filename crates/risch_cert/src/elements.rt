@@ -34,6 +34,28 @@ pub fn print_poly_in_z(alloc: Global, coefficients: &[Elem]) -> Result<Text, All
     Ok(bytes_of(text))
 }
 
+/// The name of the variable of a level: x for the level 0; t1, t2, .. for those above.
+///
+/// `Err` for want of memory alone.
+pub fn print_variable(alloc: Global, level: u8) -> Result<Text, AllocError>
+    ensures { IfOk result (λ text. text ≡ spec.variable_name level) }
+{
+    let name = variable_name(alloc, level)?;
+    Ok(bytes_of(name))
+}
+
+/// The text of a polynomial over the elements in the variable of a level.
+///
+/// `Err` for want of memory alone.
+#[tactic(auto, unfolding(crate::specs::Printing::print_in_variable))]
+pub fn print_poly(alloc: Global, level: u8, polynomial: &Poly) -> Result<Text, AllocError>
+    ensures { IfOk result (λ text. text ≡ spec.print_in_variable level polynomial.now) }
+{
+    let name = variable_name(alloc, level)?;
+    let text = print_polynomial(alloc, 5, name.as_str(), polynomial)?;
+    Ok(bytes_of(text))
+}
+
 /// The text of an element.
 #[tactic(auto, unfolding(crate::specs::Printing::print_element))]
 pub(crate) fn element_text(alloc: Global, element: &Elem) -> Result<String, AllocError>

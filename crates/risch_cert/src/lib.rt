@@ -21,5 +21,5 @@ mod texts;
 
 pub use answer::{Answer, Certificate, Halt, Place};
 pub use chain::{Chain, End};
-pub use elements::{print_elem, print_poly_in_z};
+pub use elements::{print_elem, print_poly, print_poly_in_z, print_variable};
 pub use lines::{print_answer, print_certificate};

@@ -18,6 +18,6 @@ mod power_traces;
 mod remainder_sequence;
 mod square_free_parts;
 
-pub use power_traces::characteristic;
+pub use power_traces::{characteristic, next_power};
 pub use remainder_sequence::{ZPoly, ZPolyList, remainders};
 pub use square_free_parts::square_free;

@@ -14,8 +14,10 @@ use risch_trace::{remainder, trace};
 use std::alloc::Global;
 
 /// u^(i+1) = (u^i·u) rem d, for u^i.
+///
+/// Stops: that of the first value that cannot be formed.
 #[tactic(auto, using(risch_field::proofs::CheckedSteps::stop_passes, risch_field::proofs::CheckedSteps::value_passes), unfolding(crate::specs::PowerTraces::next_power))]
-fn next_power(alloc: Global, modulus: &Inner, of: &Inner, power: &Inner) -> Result<Inner, Fail>
+pub fn next_power(alloc: Global, modulus: &Inner, of: &Inner, power: &Inner) -> Result<Inner, Fail>
     ensures { Agrees result (spec.next_power modulus.now of.now power.now) }
 {
     let product = power.mul(alloc, of)?;

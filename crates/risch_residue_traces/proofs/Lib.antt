@@ -1,0 +1,9 @@
+pub mod CountedTraces
+pub mod TracesSoFar
+pub mod FormedPowers
+pub mod Rationals
+pub mod ToldTraces
+pub mod PolynomialDerivatives
+pub mod ResidueMeaning
+pub mod ResidueClaims
+pub mod ElementClaims
