@@ -3,6 +3,7 @@
 --     separable-accepted, invertible-accepted      R' and S have inverses modulo R
 --     parts-accepted      each logarithm and each sum has a derivative
 --     derivative-accepted      so the answer has one
+--     chain-exact      the chain of a refutation is exact
 use Rattle.std.specs.Prelude.{cond, if◌then◌else◌, filter, not, nat_eq, take, codes, All}
 use Rattle.std.proofs.Common.{◌≡◌, refl, subst, ℕ, zero, suc, ◌+◌, ◌-◌, ◌≤◌, ◌<◌, Bool, true, false, List, [], ◌∷◌, map, length, Ok, Err, arith}
 use Rattle.std.proofs.lemmas.Bool.Decides.{nat_tests}
@@ -17,7 +18,8 @@ use Rattle.risch_mean.specs.Element as mean
 use Rattle.risch_mean.specs.Element.{level, InField, AllInField, ◌+ₑ◌, ◌*ₑ◌, ◌/ₑ◌}
 use Rattle.risch_mean.specs.ElementField.{elements}
 use Rattle.risch_mean.specs.ElementPolynomials.{derivative_of_modulus, times_modulo, z_times_modulo, trace_modulo, IsInvertibleModulo}
-use Rattle.risch_mean.specs.Tower.{derive_in}
+use Rattle.risch_mean.specs.Chain.{IsExact}
+use Rattle.risch_mean.specs.Tower.{Tower, derive_in}
 use Rattle.risch_mean.specs.Answer.{LogDerivative, SumDerivative, SumOf, HasDerivative}
 use Rattle.risch_field.specs.Checked.{Checked}
 use Rattle.risch_field.specs.Ground.{ground}
@@ -44,10 +46,12 @@ use Rattle.risch_rootsum.proofs.ElementInvertibles as ElementInvertibles
 use Rattle.risch_trace.proofs.TraceRules.{IsMonicWith}
 use Rattle.risch_rootsum.proofs.AlgebraRules.{modulus-is_monic, length-below, trimmed_length}
 use Rattle.risch_cert.specs.Printing.{print_in_z}
-use Rattle.risch_check.specs.Verdict.{Verdict, accepted, refused, stopped, also, formed}
+use Rattle.risch_cert.specs.declared.chain.Chain.{Chain}
+use Rattle.risch_chain_end.specs.EndMeaning.{end_of, IsEndOf}
+use Rattle.risch_chain_end.specs.Verdict.{Verdict, accepted, refused, stopped, also, formed}
 use Rattle.risch_check.specs.Checked.{checked_one, checked_coprime, checked_separable, checked_sum, checked_logarithm, checked_part, checked_parts, line_at}
-use Rattle.risch_check.proofs.VerdictSteps.{zero_told}
-use Rattle.risch_check.specs.Certificates.{IsFormed, IsNormal}
+use Rattle.risch_check.proofs.ZeroTests.{zero_told}
+use Rattle.risch_check.specs.Certificates.{IsFormed, IsNormal, IsReduced, chain_of}
 
 -- ---- conditions that hold
 pub test-accepted : (test : Bool) (line : ℕ) (left right : List ℕ) → (if test then accepted else refused line left right) ≡ accepted → test ≡ true
@@ -251,3 +255,23 @@ module _ (levels : List Level) where
           is = refl;
         },
       )
+
+-- a partial integral and a rest that reduce f, and an end that is read off the rest
+pub chain-exact : (tower : Tower) (f : mean.Element) (chain : Chain) → chain.level ≤ length tower → IsReduced tower f (answer_of chain.partial) (meaning chain.rest) →
+    IsEndOf tower chain.level (meaning chain.rest) (end_of chain.end) → IsExact tower f (chain_of chain)
+chain-exact tower f chain low reduced end =
+    record {
+      derivative = reduced.derivative;
+      has_derivative = reduced.has_derivative;
+      is = reduced.is;
+      is_level = low;
+      in_level = end.in_level;
+      us = end.us;
+      shift = end.shift;
+      shift_allowed = end.shift_allowed;
+      a = end.a;
+      d = end.d;
+      parts = end.parts;
+      normal = end.normal;
+      read_off = end.read_off;
+    }

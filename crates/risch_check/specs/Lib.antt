@@ -1,5 +1,5 @@
--- In reading order: what is said of a certificate; the conditions on it; its form; what is printed.
-pub mod Verdict
-pub mod Checked
+-- In reading order: the form of a certificate, and what it claims; the conditions on it; what is answered of it; what is printed.
 pub mod Certificates
+pub mod Checked
+pub mod Answers
 pub mod Printing

@@ -13,7 +13,7 @@ pub enum Check {
     Accepted,
     /// The first condition that does not hold: the number of its line, what the certificate says or implies there, and what it should be.
     Refused { line: u32, left: Text, right: Text },
-    /// A value that a condition needs cannot be formed.
+    /// A value that a condition needs cannot be formed, or the tower has more constants than the fractions.
     Stopped(Stop),
     /// Want of memory, about which nothing is said.
     Memory,

@@ -5,19 +5,18 @@ ghost use Rattle.risch_rootsum.specs.Algebra.{IsModulus};
 ghost use Rattle.risch_polynomial.specs.Poly as poly;
 ghost use Rattle.risch_level.specs.Levels.{element};
 ghost use Rattle.risch_check.specs.Certificates.{IsPart};
-ghost use Rattle.risch_check.specs.Verdict.{Gives};
+ghost use Rattle.risch_chain_end.specs.Verdict.{Gives};
 ghost use Rattle.risch_check.specs.Checked as spec;
 
-use crate::fault::Fault;
 use crate::polynomials::{check_coprime, modulus, polynomial};
-use crate::texts::text;
+use risch_chain_end::{Fault, text};
 use risch_elem::Elem;
 use risch_frac::Frac;
 use risch_rootsum::LogPart;
 use std::alloc::Global;
 
 /// The line is refused unless gcd(R, R') = 1.
-#[tactic(auto, using(crate::proofs::VerdictSteps::steps), unfolding(crate::specs::Checked::checked_separable))]
+#[tactic(auto, using(risch_chain_end::proofs::VerdictSteps::steps), unfolding(crate::specs::Checked::checked_separable))]
 fn check_separable(alloc: Global, line: u32, fractions: &[Frac]) -> Result<(), Fault>
     requires { IsModulus fractions.now }
     ensures { Gives result (spec.checked_separable line fractions.now) }
@@ -28,7 +27,7 @@ fn check_separable(alloc: Global, line: u32, fractions: &[Frac]) -> Result<(), F
 }
 
 /// The conditions on a sum over the roots of R.
-#[tactic(auto, using(crate::proofs::VerdictSteps::steps), unfolding(crate::specs::Checked::checked_sum))]
+#[tactic(auto, using(risch_chain_end::proofs::VerdictSteps::steps), unfolding(crate::specs::Checked::checked_sum))]
 fn check_sum(alloc: Global, line: u32, sum: &LogPart) -> Result<(), Fault>
     requires { IsPart sum.now }
     ensures { Gives result (spec.checked_sum line sum.now) }
@@ -40,7 +39,7 @@ fn check_sum(alloc: Global, line: u32, sum: &LogPart) -> Result<(), Fault>
 }
 
 /// Whether the coefficient at 0 is 0.
-#[tactic(auto, using(crate::proofs::VerdictSteps::zero_told))]
+#[tactic(auto, using(crate::proofs::ZeroTests::zero_told))]
 fn constant_is_zero(coefficients: &[Elem]) -> bool
     ensures { result ≡ element.is_zero (poly.coefficient element coefficients.now 0) }
 {

@@ -5,12 +5,11 @@ ghost use Rattle.risch_polynomial.specs.Poly as poly;
 ghost use Rattle.risch_level.specs.Levels.{element};
 ghost use Rattle.risch_rootsum.specs.Algebra as algebra;
 ghost use Rattle.risch_rootsum.specs.Algebra.{IsModulus};
-ghost use Rattle.risch_check.specs.Verdict.{Gives};
+ghost use Rattle.risch_chain_end.specs.Verdict.{Gives};
 ghost use Rattle.risch_check.specs.Checked as spec;
 
-use crate::fault::Fault;
-use crate::texts::text;
 use risch_cert::print_poly_in_z;
+use risch_chain_end::{Fault, text};
 use risch_division::gcd;
 use risch_elem::Elem;
 use risch_frac::Frac;
@@ -72,7 +71,7 @@ fn check_one(alloc: Global, line: u32, divisor: &Poly<Elem>) -> Result<(), Fault
 }
 
 /// The line is refused unless gcd(p, q) = 1.
-#[tactic(auto, using(crate::proofs::VerdictSteps::steps), unfolding(crate::specs::Checked::checked_coprime))]
+#[tactic(auto, using(risch_chain_end::proofs::VerdictSteps::steps), unfolding(crate::specs::Checked::checked_coprime))]
 pub(crate) fn check_coprime(
     alloc: Global,
     line: u32,

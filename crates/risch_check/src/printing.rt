@@ -6,8 +6,8 @@ ghost use Rattle.risch_cert.specs.declared.answer.Place.TheVariants.{Checking};
 ghost use Rattle.risch_check.specs.Printing as spec;
 
 use crate::kinds::Check;
-use crate::texts::text;
 use risch_cert::{Answer, Halt, Place, print_answer};
+use risch_chain_end::text;
 use risch_elem::Stop;
 use risch_io::Text;
 use std::alloc::{AllocError, Global};

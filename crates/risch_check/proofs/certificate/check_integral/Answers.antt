@@ -1,5 +1,5 @@
 use Rattle.std.proofs.Common.{◌≡◌}
-use Rattle.risch_check.specs.Verdict.{accepted}
+use Rattle.risch_chain_end.specs.Verdict.{accepted}
 use Rattle.risch_check.specs.Checked.{checked_parts}
 use Rattle.risch_check.proofs.Accepted.{derivative-accepted}
 use Rattle.risch_check.proofs.certificate.check_integral.Goals as goal
