@@ -7,9 +7,9 @@ use Rattle.risch_io.specs.Whole.{IsAllOf}
 use Rattle.risch_elem.specs.declared.units.Stop.{Stop}
 use Rattle.risch_elem.specs.declared.units.Stop.TheVariants.{Overflow, Size, Case, NotSound, Budget}
 use Rattle.risch_cert.specs.declared.answer.Answer.{Answer}
-use Rattle.risch_cert.specs.declared.answer.Answer.TheVariants.{Integral, Stopped, Disagree}
+use Rattle.risch_cert.specs.declared.answer.Answer.TheVariants.{Integral, Refuted, Stopped, Disagree}
 use Rattle.risch_cert.specs.Answers.{print_integral}
-use Rattle.risch_check.specs.Verdict.{Verdict, accepted, refused, stopped}
+use Rattle.risch_chain_end.specs.Verdict.{Verdict, accepted, refused, stopped}
 use Rattle.risch_check.specs.Checked.{checked}
 use Rattle.risch_text.specs.Read.{read_problem}
 use Rattle.risch_text.specs.ReadCertified.{read_certified}
@@ -22,7 +22,7 @@ use Rattle.risch_words.specs.declared.request.Command.{Command}
 use Rattle.risch_words.specs.declared.request.Command.TheVariants.{Integrate, Check, Solve, Sample}
 use Rattle.risch_words.specs.declared.request.Request.{Request}
 use Rattle.risch_cli.specs.declared.report.Report.{Report}
-use Rattle.risch_cli.specs.Procedure.{answer, stop_of}
+use Rattle.risch_cli.specs.Procedure.{answer}
 use Rattle.risch_cli.specs.Saying.{said_to, requested, unless_long, too_long, status_of, answer_status, integrand_in_x, answered, problem_report, integrated, judged, certified}
 use Rattle.risch_cli.specs.Truth.{AsksFor, HasSmallProblem, IsReported}
 use Rattle.risch_cli.specs.Telling.{IsSaid, IsAnswer, IsTold, TellsIntegral, TellsAccepted, HasSmallIntegrand}
@@ -44,6 +44,7 @@ stop_no_fault Budget = no_fault 6 (λ e. omega arith) (λ e. omega arith)
 
 answer_no_fault : (a : Answer) → IsNoFault (answer_status a)
 answer_no_fault (Integral it) = no_fault 0 (λ e. omega arith) (λ e. omega arith)
+answer_no_fault (Refuted chain) = no_fault 1 (λ e. omega arith) (λ e. omega arith)
 answer_no_fault (Stopped halt) = stop_no_fault halt.stop
 answer_no_fault (Disagree left right) = no_fault 11 (λ e. omega arith) (λ e. omega arith)
 
@@ -62,7 +63,7 @@ problem_no_fault budget problem.Memory = no_fault 10 (λ e. omega arith) (λ e. 
 verdict_no_fault : (v : Verdict) → IsNoFault (judged v).status
 verdict_no_fault accepted = no_fault 0 (λ e. omega arith) (λ e. omega arith)
 verdict_no_fault (refused line left right) = no_fault 12 (λ e. omega arith) (λ e. omega arith)
-verdict_no_fault (stopped stop) = stop_no_fault (stop_of stop)
+verdict_no_fault (stopped stop) = stop_no_fault stop
 
 certificate_no_fault : (read : ReadCertified) → IsNoFault (certified read).status
 certificate_no_fault (certificate.Certified c) = verdict_no_fault (checked c.problem.tower c.problem.integrand c.certificate c.lines)

@@ -10,21 +10,26 @@ use Rattle.risch_elem.specs.declared.units.Stop.TheVariants.{Overflow, Size, Cas
 use Rattle.risch_tower.specs.TowerMeaning.{monomials}
 use Rattle.risch_tower.specs.declared.level.Level.{Level}
 use Rattle.risch_rootsum.specs.DerivativeMeaning.{answer_of}
+use Rattle.risch_rootsum.specs.declared.integral.Integral as integrals
 use Rattle.risch_cert.specs.Answers.{print_answer}
 use Rattle.risch_cert.specs.declared.answer.Answer.{Answer}
-use Rattle.risch_cert.specs.declared.answer.Answer.TheVariants.{Integral, Stopped, Disagree}
-use Rattle.risch_check.specs.Verdict.{Verdict, Answers, OnAccepted}
+use Rattle.risch_cert.specs.declared.answer.Answer.TheVariants.{Integral, Refuted as Refutation, Stopped, Disagree}
+use Rattle.risch_chain_end.specs.Verdict.{Verdict}
+use Rattle.risch_check.specs.Answers.{Answers, OnAccepted}
 use Rattle.risch_check.specs.Checked.{checked}
 use Rattle.risch_cert.specs.declared.answer.Certificate.{Certificate}
-use Rattle.risch_cert.specs.declared.answer.Certificate.TheVariants.{Integral as Certified}
-use Rattle.risch_check.specs.Certificates.{IsCertificate, claimed, line_count}
+use Rattle.risch_cert.specs.declared.answer.Certificate.TheVariants.{Integral as Claimed, Refuted}
+use Rattle.risch_mean.specs.Chain.{IsExact}
+use Rattle.risch_cert.specs.declared.chain.End.{End}
+use Rattle.risch_cert.specs.declared.chain.End.TheVariants.{Residue}
+use Rattle.risch_check.specs.Certificates.{IsCertificate, IsFormed, IsFormedEnd, IfIntegral, IfRefuted, line_count}
 use Rattle.risch_check.specs.Printing.{print_check}
 use Rattle.risch_check.specs.declared.kinds.Check.{Check}
 use Rattle.risch_check.specs.declared.kinds.Check.TheVariants as check
 use Rattle.risch_expression.specs.declared.fault.Cause.{Cause}
 use Rattle.risch_text.specs.declared.fault.Refusal.{Refusal}
 use Rattle.risch_text.specs.Problem as text
-use Rattle.risch_text.specs.Problem.{ProblemValue, CertifiedValue, IsForm}
+use Rattle.risch_text.specs.Problem.{ProblemValue, CertifiedValue, IsIntegralForm, IsEndForm, IsForm}
 use Rattle.risch_text.specs.Read.{read_problem}
 use Rattle.risch_text.specs.ReadCertified.{read_certified}
 use Rattle.risch_text.specs.Meaning.{IsWritten, IsCertifiedWritten}
@@ -37,7 +42,7 @@ use Rattle.risch_cli.specs.Elements.{coefficients}
 use Rattle.risch_cli.specs.Meaning.{IsPolynomialInX, IsSmall}
 use Rattle.risch_cli.specs.Procedure.{answer}
 use Rattle.risch_cli.specs.Saying.{on_out, not_yet, status_of, answer_status, report_of, check_status, integrand_in_x, answered, problem_report, integrated, judged, certified}
-use Rattle.risch_cli.specs.Truth.{PrintsIntegral, IsSmallProblem, ReportsProblem, ReportsProblemFile, ReportsCertificate, ReportsCertificateFile}
+use Rattle.risch_cli.specs.Truth.{PrintsIntegral, IsSmallProblem, ReportsProblem, ReportsProblemFile, IsRight, ReportsCertificate, ReportsCertificateFile}
 use Rattle.risch_cli.proofs.ProcedureMeaning.{answer-integral}
 use Rattle.risch_cli.proofs.SmallIntegrands.{small-integral}
 
@@ -98,6 +103,7 @@ prints budget p f (Integral it) h s is zero = record {
       (subst (IsIntegral [] (answer_of it)) (sym s.means) (answer-integral budget f it s.valid s.degree_small is));
   printed = refl;
 }
+prints budget p f (Refutation chain) h s is zero = absurd (omega arith)
 prints budget p f (Stopped halt) h s is zero = absurd (stop-not_zero halt.stop zero)
 prints budget p f (Disagree left right) h s is zero = absurd (omega arith)
 
@@ -153,21 +159,30 @@ file-stopped budget bytes stop report is e =
 
 -- ---- certificates
 -- a certificate of the form that the reader gives has that which the check needs
+form-integral : (n : ℕ) (it : integrals.Integral) → IsIntegralForm n it → IsFormed n it
+form-integral n it form = record { part_within = form.part_within; logs_formed = λ k l below. (form.logs k l below).part }
+
+form-end : (n : ℕ) (end : End) → IsEndForm n end → IsFormedEnd n end
+form-end n (Residue power trace) form = form.1
+
 pub form-certificate : (n : ℕ) (c : Certificate) → IsForm n c → IsCertificate n c
-form-certificate n (Certified it) form = record { part_within = form.part_within; logs_formed = λ k l below. (form.logs k l below).part }
+form-certificate n (Claimed it) form = form-integral n it form
+form-certificate n (Refuted chain) form = record {
+  partial_formed = form-integral n chain.partial form.partial;
+  rest_within = form.rest_within;
+  is_level = form.level_low;
+  end_formed = form-end n chain.end form.end;
+}
 
 pub same_lines : (c : Certificate) → text.line_count c ≡ line_count c
-same_lines (Certified it) = refl
+same_lines (Claimed it) = refl
+same_lines (Refuted chain) = refl
 
 judged-is : (c : Check) (v : Verdict) (text : List ℕ) → Answers c v → print_check c ≡ Some text → on_out (check_status c) text ≡ judged v
 unfolding print_check print_answer
 judged-is check.Accepted v text h e = let same : _ ≡ text = cc in ap (on_out 0) (sym same) ∙ ap judged (sym h)
 judged-is (check.Refused number left right) v text h e = let same : _ ≡ text = cc in ap (on_out 12) (sym same) ∙ ap judged (sym h)
-judged-is (check.Stopped (Overflow op)) v text h e = let same : _ ≡ text = cc in ap (on_out 4) (sym same) ∙ ap judged (sym h)
-judged-is (check.Stopped Size) v text h e = let same : _ ≡ text = cc in ap (on_out 7) (sym same) ∙ ap judged (sym h)
-judged-is (check.Stopped (Case case)) v text h e = absurd h
-judged-is (check.Stopped (NotSound element)) v text h e = absurd h
-judged-is (check.Stopped Budget) v text h e = absurd h
+judged-is (check.Stopped stop) v text h e = let same : _ ≡ text = cc in ap (on_out (status_of stop)) (sym same) ∙ ap judged (sym h)
 judged-is check.Memory v text h e = cc
 
 accepted-holds : (c : Check) (fact : Type 0) → OnAccepted c fact → check_status c ≡ 0 → fact
@@ -176,20 +191,32 @@ accepted-holds (check.Refused number left right) fact h zero = absurd (omega ari
 accepted-holds (check.Stopped stop) fact h zero = absurd (stop-not_zero stop zero)
 accepted-holds check.Memory fact h zero = absurd (omega arith)
 
+-- what is proved of each kind of certificate
+is_right : (tower : List Level) (integrand : Element) (certificate : Certificate) →
+    IfIntegral certificate (λ it. IsIntegral (monomials tower) it (meaning integrand)) →
+    IfRefuted certificate (IsExact (monomials tower) (meaning integrand)) → IsRight tower integrand certificate
+is_right tower integrand (Claimed it) integral chain = integral
+is_right tower integrand (Refuted it) integral chain = chain
+
 pub certificate-judged : (it : CertifiedValue) (c : Check) (text : List ℕ) (report : Report) →
     Answers c (checked it.problem.tower it.problem.integrand it.certificate it.lines) →
-    OnAccepted c (IsIntegral (monomials it.problem.tower) (claimed it.certificate) (meaning it.problem.integrand)) →
+    OnAccepted c (IfIntegral it.certificate (λ answer. IsIntegral (monomials it.problem.tower) answer (meaning it.problem.integrand))) →
+    OnAccepted c (IfRefuted it.certificate (IsExact (monomials it.problem.tower) (meaning it.problem.integrand))) →
     print_check c ≡ Some text → report ≡ on_out (check_status c) text → ReportsCertificate it report
-certificate-judged it c text report rule holds printed e = record {
+certificate-judged it c text report rule integral chain printed e = record {
   said = e ∙ judged-is c (checked it.problem.tower it.problem.integrand it.certificate it.lines) text rule printed;
-  accepted = λ zero. accepted-holds c (IsIntegral (monomials it.problem.tower) (claimed it.certificate) (meaning it.problem.integrand)) holds (sym (ap (λ r. r.status) e) ∙ zero);
+  accepted = λ zero.
+      let accepts = sym (ap (λ r. r.status) e) ∙ zero in
+      is_right it.problem.tower it.problem.integrand it.certificate
+      (accepted-holds c (IfIntegral it.certificate (λ answer. IsIntegral (monomials it.problem.tower) answer (meaning it.problem.integrand))) integral accepts)
+      (accepted-holds c (IfRefuted it.certificate (IsExact (monomials it.problem.tower) (meaning it.problem.integrand))) chain accepts);
 }
 
 pub file-certified : (bytes : List ℕ) (it : CertifiedValue) (report : Report) → read_certified bytes ≡ certificate.Certified it → IsCertifiedWritten bytes it → ReportsCertificate it report →
     ReportsCertificateFile bytes report
 file-certified bytes it report read written r = record {
   said = r.said ∙ ap certified (sym read);
-  accepted = λ zero. record { it = it; read = read; written = written; exact = r.accepted zero };
+  accepted = λ zero. record { it = it; read = read; written = written; right = r.accepted zero };
 }
 
 -- what is no problem with a certificate

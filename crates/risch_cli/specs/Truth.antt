@@ -3,12 +3,17 @@ use Rattle.std.specs.Prelude.{◌≡◌, ℕ, ◌≤◌, ◌⊎◌, Option, Some
 use Rattle.risch_frac.specs.Fraction.{Fraction}
 use Rattle.risch_io.specs.Whole.{IsAllOf}
 use Rattle.risch_mean.specs.Answer.{IsIntegral}
+use Rattle.risch_mean.specs.Chain.{IsExact}
+use Rattle.risch_level.specs.Levels.{Element}
 use Rattle.risch_element_theory.specs.WholeTower.{meaning}
 use Rattle.risch_tower.specs.TowerMeaning.{monomials}
+use Rattle.risch_tower.specs.declared.level.Level.{Level}
 use Rattle.risch_rootsum.specs.DerivativeMeaning.{answer_of}
 use Rattle.risch_rootsum.specs.declared.integral.Integral.{Integral}
 use Rattle.risch_cert.specs.Answers.{print_integral}
-use Rattle.risch_check.specs.Certificates.{claimed}
+use Rattle.risch_cert.specs.declared.answer.Certificate.{Certificate}
+use Rattle.risch_cert.specs.declared.answer.Certificate.TheVariants.{Integral as Claimed, Refuted}
+use Rattle.risch_check.specs.Certificates.{chain_of}
 use Rattle.risch_check.specs.Checked.{checked}
 use Rattle.risch_text.specs.Problem.{ProblemValue, CertifiedValue}
 use Rattle.risch_text.specs.Read.{read_problem}
@@ -37,12 +42,17 @@ pub record AnswersProblem (bytes text : List ℕ) : Type 0 where
   pub written : IsWritten bytes problem
   pub prints : PrintsIntegral problem text
 
--- The file is a problem with a certificate: what it claims is an integral of the integrand in its tower, and these are the written values of the lines.
+-- What the certificate claims of the integrand in the tower is true: that it is an integral; or, where it is a refutation, that its chain reduces the integrand exactly, with an end that is read off its rest.
+abbrev pub IsRight : List Level → Element → Certificate → Type 0
+IsRight tower integrand (Claimed it) = IsIntegral (monomials tower) (answer_of it) (meaning integrand)
+IsRight tower integrand (Refuted chain) = IsExact (monomials tower) (meaning integrand) (chain_of chain)
+
+-- The file is a problem with a certificate: what it claims of the integrand in its tower is true, and these are the written values of the lines.
 pub record HoldsCertificate (bytes : List ℕ) : Type 0 where
   pub it : CertifiedValue
   pub read : read_certified bytes ≡ Certified it
   pub written : IsCertifiedWritten bytes it
-  pub exact : IsIntegral (monomials it.problem.tower) (claimed it.certificate) (meaning it.problem.integrand)
+  pub right : IsRight it.problem.tower it.problem.integrand it.certificate
 
 -- the integrand is a polynomial in x of degree at most 254 with coefficients whose numerators and denominators are below 2^60
 pub record IsSmallProblem (p : ProblemValue) : Type 0 where
@@ -69,10 +79,10 @@ pub record ReportsProblemFile (budget : ℕ) (bytes : List ℕ) (report : Report
   pub integral : report.status ≡ 0 → AnswersProblem bytes report.out
   pub small : 512 ≤ budget → HasSmallProblem bytes → report.status ≡ 0
 
--- the report on a problem with a certificate: what is said; and the status is 0 only where the certificate holds
+-- the report on a problem with a certificate: what is said; and the status is 0 only where what it claims is true
 pub record ReportsCertificate (it : CertifiedValue) (report : Report) : Type 0 where
   pub said : report ≡ judged (checked it.problem.tower it.problem.integrand it.certificate it.lines)
-  pub accepted : report.status ≡ 0 → IsIntegral (monomials it.problem.tower) (claimed it.certificate) (meaning it.problem.integrand)
+  pub accepted : report.status ≡ 0 → IsRight it.problem.tower it.problem.integrand it.certificate
 
 -- the same of a file
 pub record ReportsCertificateFile (bytes : List ℕ) (report : Report) : Type 0 where

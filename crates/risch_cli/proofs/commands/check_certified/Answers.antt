@@ -1,8 +1,9 @@
 use Rattle.std.proofs.Common.{◌≡◌, ◌+◌, length, sym, ◌∙◌, ap, subst}
-use Rattle.risch_check.specs.Verdict.{Answers, OnAccepted}
+use Rattle.risch_check.specs.Answers.{Answers, OnAccepted}
 use Rattle.risch_check.specs.Checked.{checked}
-use Rattle.risch_check.specs.Certificates.{IsCertificate, claimed, line_count}
+use Rattle.risch_check.specs.Certificates.{IsCertificate, IfIntegral, IfRefuted, line_count}
 use Rattle.risch_mean.specs.Answer.{IsIntegral}
+use Rattle.risch_mean.specs.Chain.{IsExact}
 use Rattle.risch_element_theory.specs.WholeTower.{meaning}
 use Rattle.risch_tower.specs.TowerMeaning.{monomials}
 use Rattle.risch_text.specs.Problem.{CertifiedValue}
@@ -27,5 +28,6 @@ returns c =
     let path = ap the_view c.certified-inside.view_is ∙ c.certified.view_is in
     certificate-judged c.args.certified.now c.check-verdict.result c.in_ok-text.text c.on_out.result
     (subst (λ (it : CertifiedValue). Answers c.check-verdict.result (checked it.problem.tower it.problem.integrand it.certificate it.lines)) path c.check-verdict.ensures.rule)
-    (subst (λ (it : CertifiedValue). OnAccepted c.check-verdict.result (IsIntegral (monomials it.problem.tower) (claimed it.certificate) (meaning it.problem.integrand))) path c.check-verdict.ensures.integral)
+    (subst (λ (it : CertifiedValue). OnAccepted c.check-verdict.result (IfIntegral it.certificate (λ answer. IsIntegral (monomials it.problem.tower) answer (meaning it.problem.integrand)))) path c.check-verdict.ensures.integral)
+    (subst (λ (it : CertifiedValue). OnAccepted c.check-verdict.result (IfRefuted it.certificate (IsExact (monomials it.problem.tower) (meaning it.problem.integrand)))) path c.check-verdict.ensures.chain)
     c.in_ok-text.ensures (c.on_out.ensures ∙ ap (λ k. on_out k c.in_ok-text.text) c.check_status.ensures)
