@@ -1,4 +1,5 @@
 pub mod ArgumentSteps
+pub mod CallSteps
 pub mod LogarithmSteps
 pub mod MemberSteps
 pub mod NewtonRules

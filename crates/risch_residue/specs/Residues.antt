@@ -1,5 +1,5 @@
 -- The residues of h: not constant, or the logarithms with the trace of ρ, which is the sum of the residues.
-use Rattle.std.specs.Prelude.{ℕ, List, [], get_or, Ok}
+use Rattle.std.specs.Prelude.{ℕ, List, get_or, Ok}
 use Rattle.risch_field.specs.Checked.{Checked, and_then}
 use Rattle.risch_level.specs.Accessors.{as_number}
 use Rattle.risch_level.specs.Levels.{Element, element}

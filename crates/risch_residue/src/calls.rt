@@ -4,6 +4,7 @@ ghost use Rattle.std.specs.Prelude.{◌≡◌, ◌≤◌, ◌<◌, ◌+◌, leng
 ghost use Rattle.risch_field.specs.Checked.{Agrees};
 ghost use Rattle.risch_level.specs.Accessors.{as_number};
 ghost use Rattle.risch_residue.specs.Logarithms.{fraction_of};
+ghost use Rattle.risch_residue_traces.specs.ResidueTraces.{residue_traces};
 ghost use Rattle.risch_residue_traces.specs.TracesMeaning as sums;
 ghost use Rattle.risch_univariate.specs.SplittingFactorization.{IsNormal};
 ghost use Rattle.risch_mean.specs.Constants as constants;
@@ -20,6 +21,7 @@ ghost use Rattle.risch_residue_traces.specs.TracesMeaning.{AreNotConstant};
 ghost use Rattle.risch_residue.specs.Residues as spec;
 ghost use Rattle.risch_residue.specs.ResiduesMeaning.{IfConstant, IfNotConstant, AreLogarithmsOf, AllLogParts};
 
+use crate::logarithm::fraction;
 use crate::logarithms::logarithms;
 use crate::outcome::Residues;
 use risch_elem::{Elem, Fail, Run, Units};
@@ -34,9 +36,9 @@ use std::alloc::Global;
 fn first_trace(traces: &[Elem]) -> Frac
     ensures { result ≡ fraction_of (as_number 5 (spec.first_trace traces.now)) }
 {
-    match traces.first().and_then(|trace| trace.as_num()) {
-        Some(trace) => trace,
-        None => Frac::zero(),
+    match traces.first() {
+        Some(trace) => fraction(trace),
+        None => fraction(&Elem::zero()),
     }
 }
 
@@ -51,7 +53,8 @@ fn residues_by(
     requires level { level ≤ length tower.now }
     requires within { Within (level + 1) h.now }
     requires fractions { sums.IfConstant traces (AllWithin 0) }
-    ensures { Agrees result (spec.residues_by tower.now level h.now traces) }
+    ensures rule { Agrees result (spec.residues_by tower.now level h.now traces) }
+    ensures not_constant { sums.IfNotConstant traces (λ power trace. AreNotConstant tower.now level h.now power trace × Within level trace) → IfOk result (λ it. IfNotConstant it (λ power trace. AreNotConstant tower.now level h.now power trace × Within level trace)) }
 {
     match traces {
         Traces::NotConstant { power, trace } => Ok(Residues::NotConstant { power, trace }),
@@ -63,7 +66,34 @@ fn residues_by(
     }
 }
 
+/// The power sums as a result.
+#[tactic(auto, using(crate::proofs::CallSteps::results))]
+fn traces_of<U: Units>(
+    alloc: Global,
+    tower: &Tower,
+    level: u8,
+    h: &Elem,
+    units: &mut U,
+) -> Result<Traces, Ended>
+    requires level { level ≤ length tower.now }
+    requires within { Within (level + 1) h.now }
+    requires some { IsFalse (element.is_zero h.now) }
+    requires proper { length (numerator_at level h.now) < length (denominator_at level h.now) }
+    requires normal { IsNormal elements (level_derivation (monomials tower.now) level) (polynomial (denominator_at level h.now)) }
+    ensures rule { IsCountedResult result (residue_traces tower.now level h.now) (U.units units.old) (U.units units.new) (U.most units.old) }
+    ensures constant { IfOk result (λ it. sums.IfConstant it (sums.AreResidueTraces tower.now level h.now)) }
+    ensures not_constant { IfOk result (λ it. sums.IfNotConstant it (λ power trace. AreNotConstant tower.now level h.now power trace × Within level trace)) }
+    ensures not_sound { IfErrNotSound result (λ e. constants.IsNewConstant (monomials tower.now) level (meaning e)) }
+    ensures leaves { LeavesOf result (U.leaves units.old) (U.leaves units.new) }
+    ensures same_most { U.most units.new ≡ U.most units.old }
+    ensures same_kept { U.kept units.new ≡ U.kept units.old }
+{
+    let run = residue_traces(alloc, tower, level, h, units);
+    result_of(run)
+}
+
 /// The residues as a result.
+#[tactic(auto, using(risch_run::proofs::CountedSteps::steps, risch_run::proofs::RuledSteps::stop_is_sound), unfolding(crate::specs::Residues::residues))]
 fn residues_of<U: Units>(
     alloc: Global,
     tower: &Tower,
@@ -83,7 +113,7 @@ fn residues_of<U: Units>(
     ensures same_most { U.most units.new ≡ U.most units.old }
     ensures same_kept { U.kept units.new ≡ U.kept units.old }
 {
-    let traces = result_of(residue_traces(alloc, tower, level, h, units))?;
+    let traces = traces_of(alloc, tower, level, h, units)?;
     Ok(residues_by(alloc, tower, level, h, traces)?)
 }
 

@@ -89,7 +89,7 @@ fn power_count(poly: &Inner, of: &[Inner]) -> usize
 }
 
 /// The fraction that an element is, and 0 for another.
-fn fraction(of: &Elem) -> Frac
+pub(crate) fn fraction(of: &Elem) -> Frac
     ensures { result ≡ spec.fraction_of (as_number 5 of.now) }
 {
     match of.as_num() {
