@@ -22,8 +22,7 @@ use Rattle.risch_words.specs.declared.request.Command.{Command}
 use Rattle.risch_words.specs.declared.request.Command.TheVariants.{Integrate, Check, Solve, Sample}
 use Rattle.risch_words.specs.declared.request.Request.{Request}
 use Rattle.risch_cli.specs.declared.report.Report.{Report}
-use Rattle.risch_cli.specs.Procedure.{answer}
-use Rattle.risch_cli.specs.Saying.{said_to, requested, unless_long, too_long, status_of, answer_status, integrand_in_x, answered, problem_report, integrated, judged, certified}
+use Rattle.risch_cli.specs.Saying.{said_to, requested, unless_long, too_long, status_of, answer_status, answer_in_x, answered, problem_report, integrated, judged, certified}
 use Rattle.risch_cli.specs.Truth.{AsksFor, HasSmallProblem, IsReported}
 use Rattle.risch_cli.specs.Telling.{IsSaid, IsAnswer, IsTold, TellsIntegral, TellsAccepted, HasSmallIntegrand}
 
@@ -54,7 +53,7 @@ answered_no_fault (Some a) = answer_no_fault a
 
 problem_no_fault : (budget : ℕ) (read : ReadProblem) → IsNoFault (integrated budget read).status
 unfolding problem_report
-problem_no_fault budget (problem.Problem p) = answered_no_fault (option_map (answer budget) (integrand_in_x p.tower p.integrand))
+problem_no_fault budget (problem.Problem p) = answered_no_fault (answer_in_x budget p.tower p.integrand)
 problem_no_fault budget (problem.Syntax at cause) = no_fault 3 (λ e. omega arith) (λ e. omega arith)
 problem_no_fault budget (problem.Refused at cause) = no_fault 3 (λ e. omega arith) (λ e. omega arith)
 problem_no_fault budget (problem.Stopped stop) = stop_no_fault stop

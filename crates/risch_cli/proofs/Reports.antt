@@ -4,7 +4,7 @@ use Rattle.std.proofs.Common.{◌≡◌, ◌≢◌, ℕ, ◌≤◌, ◌<◌, Lis
 use Rattle.risch_frac.specs.Fraction.{Fraction}
 use Rattle.risch_mean.specs.Answer.{IsIntegral}
 use Rattle.risch_level.specs.Levels.{Element}
-use Rattle.risch_element_theory.specs.WholeTower.{meaning}
+use Rattle.risch_element_theory.specs.WholeTower.{IsElement, Within}
 use Rattle.risch_elem.specs.declared.units.Stop.{Stop}
 use Rattle.risch_elem.specs.declared.units.Stop.TheVariants.{Overflow, Size, Case, NotSound, Budget}
 use Rattle.risch_tower.specs.TowerMeaning.{monomials}
@@ -38,13 +38,14 @@ use Rattle.risch_text.specs.declared.problem.ReadProblem.TheVariants as problem
 use Rattle.risch_text.specs.declared.certified.ReadCertified.{ReadCertified}
 use Rattle.risch_text.specs.declared.certified.ReadCertified.TheVariants as certificate
 use Rattle.risch_cli.specs.declared.report.Report.{Report}
-use Rattle.risch_cli.specs.Elements.{coefficients}
-use Rattle.risch_cli.specs.Meaning.{IsPolynomialInX, IsSmall}
-use Rattle.risch_cli.specs.Procedure.{answer}
-use Rattle.risch_cli.specs.Saying.{on_out, not_yet, status_of, answer_status, report_of, check_status, integrand_in_x, answered, problem_report, integrated, judged, certified}
+use Rattle.risch_round.specs.Elements.{coefficients}
+use Rattle.risch_round.specs.Meaning.{IsSmall}
+use Rattle.risch_round.specs.AnswerMeaning.{IsFoundIntegral}
+use Rattle.risch_round.specs.RationalFunctions.{answer, answer_by}
+use Rattle.risch_round.proofs.ElementsInX.{coefficients-stand}
+use Rattle.risch_cli.specs.Saying.{on_out, not_yet, status_of, answer_status, report_of, check_status, integrand_in_x, answer_in_x, answered, problem_report, integrated, judged, certified}
 use Rattle.risch_cli.specs.Truth.{PrintsIntegral, IsSmallProblem, ReportsProblem, ReportsProblemFile, IsRight, ReportsCertificate, ReportsCertificateFile}
-use Rattle.risch_cli.proofs.ProcedureMeaning.{answer-integral}
-use Rattle.risch_cli.proofs.SmallIntegrands.{small-integral}
+use Rattle.risch_round.proofs.SmallIntegrands.{small-integral}
 
 -- what holds of a value holds of what follows from it
 pub if_ok : {A E : Type 0} (P Q : A → Type 0) (result : Result A E) → ((a : A) → P a → Q a) → IfOk result P → IfOk result Q
@@ -60,66 +61,56 @@ stop-not_zero (NotSound element) e = omega arith
 stop-not_zero Budget e = omega arith
 
 -- ---- problems
-none_is_none : {A B : Type 0} (f : A → B) (o : Option A) → o ≡ None → option_map f o ≡ None
-none_is_none f o e = rw e refl
-
-not_some : {A : Type 0} (o : Option A) (a : A) → o ≡ None → o ≡ Some a → ⊥
-not_some o a e f = cc
-
--- a problem that is not yet served
-pub problem-not_yet : (budget : ℕ) (p : ProblemValue) (report : Report) → integrand_in_x p.tower p.integrand ≡ None → report ≡ not_yet → ReportsProblem budget p report
-unfolding problem_report
-problem-not_yet budget p report none e = record {
-  said = e ∙ ap answered (sym (none_is_none (answer budget) (integrand_in_x p.tower p.integrand) none));
-  integral = λ zero. absurd (let thirteen = ap (λ r. r.status) e in omega arith);
-  small = λ enough small. absurd (not_some (integrand_in_x p.tower p.integrand) small.polynomial none small.is);
-}
-
-higher : (levels : List Level) (e : Element) → 0 < length levels → integrand_in_x levels e ≡ None
-higher [] e h = absurd (omega arith)
-higher (l ∷ levels) e h = refl
-
 empty : (levels : List Level) → length levels ≤ 0 → levels ≡ []
 empty [] h = refl
 empty (l ∷ levels) h = absurd (omega arith)
 
 -- a tower with a monomial
+unserved : (budget : ℕ) (levels : List Level) (e : Element) → 0 < length levels → answer_in_x budget levels e ≡ None
+unserved budget [] e h = absurd (omega arith)
+unserved budget (l ∷ levels) e h = refl
+
+no_polynomial : (levels : List Level) (e : Element) (f : List Fraction) → 0 < length levels → integrand_in_x levels e ≡ Some f → ⊥
+no_polynomial [] e f h is = absurd (omega arith)
+no_polynomial (l ∷ levels) e f h is = cc
+
 pub problem-higher : (budget : ℕ) (p : ProblemValue) (report : Report) → 0 < length p.tower → report ≡ not_yet → ReportsProblem budget p report
-problem-higher budget p report h e = problem-not_yet budget p report (higher p.tower p.integrand h) e
-
-in_x : (p : ProblemValue) → length p.tower ≤ 0 → integrand_in_x p.tower p.integrand ≡ coefficients p.integrand
-in_x p h = ap (λ levels. integrand_in_x levels p.integrand) (empty p.tower h)
-
--- an integrand that is no polynomial in x
-pub problem-other : (budget : ℕ) (p : ProblemValue) (report : Report) → length p.tower ≤ 0 → None ≡ coefficients p.integrand → report ≡ not_yet → ReportsProblem budget p report
-problem-other budget p report h none e = problem-not_yet budget p report (in_x p h ∙ sym none) e
-
-prints : (budget : ℕ) (p : ProblemValue) (f : List Fraction) (a : Answer) → length p.tower ≤ 0 → IsPolynomialInX p.integrand f → answer budget f ≡ a →
-    answer_status a ≡ 0 → PrintsIntegral p (print_answer a)
-unfolding print_answer
-prints budget p f (Integral it) h s is zero = record {
-  integral = it;
-  exact = subst (λ levels. IsIntegral (monomials levels) (answer_of it) (meaning p.integrand)) (sym (empty p.tower h))
-      (subst (IsIntegral [] (answer_of it)) (sym s.means) (answer-integral budget f it s.valid s.degree_small is));
-  printed = refl;
-}
-prints budget p f (Refutation chain) h s is zero = absurd (omega arith)
-prints budget p f (Stopped halt) h s is zero = absurd (stop-not_zero halt.stop zero)
-prints budget p f (Disagree left right) h s is zero = absurd (omega arith)
-
--- a polynomial in x
-pub problem-answered : (budget : ℕ) (p : ProblemValue) (f : List Fraction) (report : Report) → length p.tower ≤ 0 → Some f ≡ coefficients p.integrand → IsPolynomialInX p.integrand f →
-    report ≡ report_of (answer budget f) → ReportsProblem budget p report
 unfolding problem_report
-problem-answered budget p f report h some s e = record {
-  said = e ∙ ap (λ o. answered (option_map (answer budget) o)) (some ∙ sym (in_x p h));
-  integral = λ zero. subst (PrintsIntegral p) (sym (ap (λ r. r.out) e)) (prints budget p f (answer budget f) h s refl (sym (ap (λ r. r.status) e) ∙ zero));
-  small = λ enough small.
-      let same : Some f ≡ Some small.polynomial = some ∙ sym (in_x p h) ∙ small.is in
-      let here : small.polynomial ≡ f = cc in
-      let found = small-integral budget f enough s.valid s.ends_not_zero (subst IsSmall here small.small) in
-      ap (λ r. r.status) e ∙ ap answer_status found.1;
+problem-higher budget p report h e = record {
+  said = e ∙ ap answered (sym (unserved budget p.tower p.integrand h));
+  integral = λ zero. absurd (let thirteen = ap (λ r. r.status) e in omega arith);
+  small = λ enough small. absurd (no_polynomial p.tower p.integrand small.polynomial h small.is);
 }
+
+-- ---- x alone
+prints : (p : ProblemValue) (a : Answer) → IsFoundIntegral p.tower p.integrand a → answer_status a ≡ 0 → PrintsIntegral p (print_answer a)
+unfolding print_answer
+prints p (Integral it) found zero = record { integral = it; exact = found; printed = refl }
+prints p (Refutation chain) found zero = absurd (omega arith)
+prints p (Stopped halt) found zero = absurd (stop-not_zero halt.stop zero)
+prints p (Disagree left right) found zero = absurd (omega arith)
+
+-- a polynomial with small coefficients is answered by its integral
+small_answer : (budget : ℕ) (e : Element) (f : List Fraction) → 512 ≤ budget → IsElement e → Within 1 e → coefficients e ≡ Some f → IsSmall f → answer_status (answer budget e) ≡ 0
+unfolding answer
+small_answer budget e f enough valid within is small =
+    let s = coefficients-stand e f valid within is in
+    let found = small-integral budget f enough s.valid s.ends_not_zero small in
+    ap (λ o. answer_status (answer_by [] budget e o)) is ∙ ap answer_status found.1
+
+-- a rational function in x
+pub problem-answered : (budget : ℕ) (p : ProblemValue) (a : Answer) (report : Report) → length p.tower ≤ 0 → IsElement p.integrand → Within 1 p.integrand → a ≡ answer budget p.integrand →
+    IsFoundIntegral p.tower p.integrand a → report ≡ report_of a → ReportsProblem budget p report
+unfolding problem_report
+problem-answered budget p a report h valid within is found e =
+    let none : p.tower ≡ [] = empty p.tower h in
+    record {
+      said = e ∙ ap report_of is ∙ ap (λ levels. answered (answer_in_x budget levels p.integrand)) (sym none);
+      integral = λ zero. subst (PrintsIntegral p) (sym (ap (λ r. r.out) e)) (prints p a found (sym (ap (λ r. r.status) e) ∙ zero));
+      small = λ enough small.
+          let polynomial : coefficients p.integrand ≡ Some small.polynomial = ap (λ levels. integrand_in_x levels p.integrand) (sym none) ∙ small.is in
+          ap (λ r. r.status) e ∙ ap answer_status is ∙ small_answer budget p.integrand small.polynomial enough valid within polynomial small.small;
+    }
 
 -- ---- files of problems
 pub file-problem : (budget : ℕ) (bytes : List ℕ) (p : ProblemValue) (report : Report) → read_problem bytes ≡ problem.Problem p → IsWritten bytes p → ReportsProblem budget p report →

@@ -26,7 +26,7 @@ use Rattle.risch_words.specs.declared.request.Command.{Command}
 use Rattle.risch_words.specs.declared.request.Command.TheVariants.{Integrate, Check}
 use Rattle.risch_words.specs.declared.request.Request.{Request}
 use Rattle.risch_cli.specs.declared.report.Report.{Report}
-use Rattle.risch_cli.specs.Meaning.{IsSmall}
+use Rattle.risch_round.specs.Meaning.{IsSmall}
 use Rattle.risch_cli.specs.Saying as saying
 use Rattle.risch_cli.specs.Saying.{integrand_in_x, problem_report, integrated, judged, certified}
 

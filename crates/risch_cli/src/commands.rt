@@ -3,12 +3,11 @@ ghost use Rattle.std.specs.Prelude.{◌≡◌, ◌<◌, ◌^◌, length, IfOk};
 ghost use Rattle.risch_cli.specs.Saying as spec;
 ghost use Rattle.risch_cli.specs.Truth.{ReportsCertificate, ReportsCertificateFile, ReportsProblem, ReportsProblemFile};
 
-use crate::elements::coefficients;
-use crate::procedure::integrate;
 use crate::report::{Report, stop_status};
 use risch_cert::Place;
 use risch_check::kinds::Check;
 use risch_check::{check, print_check};
+use risch_round::integrate;
 use risch_text::{Certified, Problem, ReadCertified, ReadProblem, read_certified, read_problem};
 use std::alloc::{AllocError, Global};
 
@@ -26,7 +25,7 @@ pub(crate) fn integrate_file(alloc: Global, budget: u64, file: &[u8]) -> Result<
     }
 }
 
-/// The answer to a problem, with a budget. Where the integrand is no polynomial in x, it is not yet served.
+/// The answer to a problem, with a budget. Where the tower has a monomial, it is not yet served.
 fn integrate_problem(alloc: Global, budget: u64, problem: &Problem) -> Result<Report, AllocError>
     ensures { IfOk result (ReportsProblem budget problem.now) }
 {
@@ -34,10 +33,9 @@ fn integrate_problem(alloc: Global, budget: u64, problem: &Problem) -> Result<Re
     if problem.tower.height() > 0 {
         return Report::not_yet(alloc);
     }
-    match coefficients(alloc, &problem.integrand)? {
-        Some(integrand) => Report::of_answer(alloc, &integrate(alloc, budget, &integrand)?),
-        None => Report::not_yet(alloc),
-    }
+    let _integrand = problem.integrand.nest();
+    let answer = integrate(alloc, &problem.tower, &problem.integrand, budget)?;
+    Report::of_answer(alloc, &answer)
 }
 
 /// `check`: whether the certificate of a file holds.
