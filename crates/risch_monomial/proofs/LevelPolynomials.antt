@@ -42,6 +42,7 @@ use Rattle.risch_tower.specs.TowerMeaning.{monomials}
 use Rattle.risch_tower.proofs.TowerLevels.{length-monomials}
 use Rattle.risch_monomial.specs.LevelDerivation.{derivative_of_variable, level_derivation}
 use Rattle.risch_monomial.specs.LevelDerivation.{IsLevelOf}
+pub use Rattle.risch_monomial.specs.LevelElements.{at}
 
 abbrev R : CommRing (Polynomial elements)
 R = polynomials elements
@@ -56,10 +57,6 @@ transcendental level = (level_below level).transcendental
 -- the coefficients lie there
 abbrev pub Over : ℕ → Polynomial elements → Type 0
 Over level p = Transcendence.Over elements (InField level) (closed level) p
-
--- p(t) for the variable t of the level
-abbrev pub at : ℕ → Polynomial elements → mean.Element
-at level p = Transcendence.at elements (variable level) p
 
 -- p(t) = q(t) gives p = q
 pub same-of_values : (level : ℕ) (p q : Polynomial elements) → Over level p → Over level q → at level p ≡ at level q → p ≡ q

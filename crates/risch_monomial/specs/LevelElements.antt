@@ -1,8 +1,17 @@
 -- Polynomials in the variable t of a level as elements, their quotients, and the numerator and the denominator of an element at the level.
 use Rattle.std.specs.Prelude.{ℕ, ◌-◌, List, [], ◌∷◌}
+use Rattle.risch_univariate.specs.Polynomial.{Polynomial}
+use Rattle.risch_mean.specs.Element as mean
+use Rattle.risch_mean.specs.Element.{variable}
+use Rattle.risch_mean.specs.ElementField.{elements}
 use Rattle.risch_field.specs.Checked.{Checked, and_then}
 use Rattle.risch_level.specs.Levels.{Element, element}
 use Rattle.risch_level.specs.Parts.{levels, denominator}
+use Rattle.risch_element_theory.proofs.ElementsTranscendence as Transcendence
+
+-- p(t) for the variable t of the level
+abbrev pub at : ℕ → Polynomial elements → mean.Element
+at level p = Transcendence.at elements (variable level) p
 
 -- the polynomial 1
 abbrev pub one : List Element

@@ -2,8 +2,10 @@
 
 ghost use Rattle.std.specs.Prelude.{◌≡◌, ◌<◌, ◌+◌, length, IfOk, IsFalse};
 ghost use Rattle.risch_field.specs.Checked.{Agrees};
+ghost use Rattle.risch_mean.specs.Element.{◌*ₑ◌};
 ghost use Rattle.risch_level.specs.Levels.{element};
-ghost use Rattle.risch_element_theory.specs.WholeTower.{Within, AllWithin};
+ghost use Rattle.risch_element_theory.specs.WholeTower.{meaning, polynomial, Within, AllWithin};
+ghost use Rattle.risch_monomial.specs.LevelElements.{at};
 ghost use Rattle.risch_monomial.specs.LevelElements as spec;
 
 use risch_elem::{Elem, Fail, Poly};
@@ -27,6 +29,7 @@ pub fn of_polynomial(alloc: Global, level: u8, poly: &Poly) -> Result<Elem, Fail
     requires level { level < 5 }
     requires within { AllWithin level poly.now }
     ensures rule { Agrees result (spec.of_polynomial level poly.now) }
+    ensures meaning { IfOk result (λ it. meaning it ≡ at level (polynomial poly.now)) }
     ensures some { 0 < length poly.now → IfOk result (λ it. IsFalse (element.is_zero it)) }
     ensures within { IfOk result (λ it. Within (level + 1) it) }
 {
@@ -45,6 +48,7 @@ pub fn ratio(alloc: Global, level: u8, top: &Poly, bottom: &Poly) -> Result<Elem
     requires top_within { AllWithin level top.now }
     requires bottom_within { AllWithin level bottom.now }
     ensures rule { Agrees result (spec.ratio level top.now bottom.now) }
+    ensures meaning { IfOk result (λ it. meaning it *ₑ at level (polynomial bottom.now) ≡ at level (polynomial top.now)) }
     ensures within { IfOk result (λ it. Within (level + 1) it) }
 {
     let top = of_polynomial(alloc, level, top)?;

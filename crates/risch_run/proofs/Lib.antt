@@ -1,1 +1,2 @@
 pub mod RuledSteps
+pub mod CountedSteps

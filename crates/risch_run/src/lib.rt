@@ -9,8 +9,11 @@
 ghost use Rattle.std.specs.Prelude.{◌≡◌};
 ghost use Rattle.risch_run.specs.Ruled.{run_of};
 
+mod units;
+
 use risch_elem::{Fail, Run, Stop};
 use std::alloc::AllocError;
+pub use units::charge;
 
 /// What ends a run before its value.
 #[derive(Drop)]

@@ -1,0 +1,2 @@
+pub mod HermiteReduction
+pub mod HermiteMeaning

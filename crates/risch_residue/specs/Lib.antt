@@ -1,0 +1,4 @@
+pub mod Newton
+pub mod Logarithms
+pub mod Residues
+pub mod ResiduesMeaning

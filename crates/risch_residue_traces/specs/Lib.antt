@@ -1,0 +1,2 @@
+pub mod ResidueTraces
+pub mod TracesMeaning
