@@ -1,0 +1,4 @@
+pub mod MappedPolynomials
+pub mod FractionEvaluation
+pub mod TranscendenceBelow
+pub mod FieldBelow
