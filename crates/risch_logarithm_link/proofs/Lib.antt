@@ -1,1 +1,4 @@
 pub mod PseudoRemainders
+pub mod StandingPolynomials
+pub mod StandingMembers
+pub mod StandingSequences

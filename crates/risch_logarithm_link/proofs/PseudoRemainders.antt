@@ -83,10 +83,10 @@ leading-get (p ∷ []) (suc k) e = absurd (omega (arith, e))
 leading-get (p ∷ (q ∷ m)) zero e = absurd (omega (arith, e))
 leading-get (p ∷ (q ∷ m)) (suc k) e = leading-get (q ∷ m) k (omega (arith, e))
 
-push-length : (formed : Member) (q : InZ) → length (formed ++ q ∷ []) ≡ suc (length formed)
+pub push-length : (formed : Member) (q : InZ) → length (formed ++ q ∷ []) ≡ suc (length formed)
 push-length formed q = omega (arith, length-append formed (q ∷ []))
 
-push-last : (formed : Member) (q : InZ) → get_or (formed ++ q ∷ []) (length formed) [] ≡ q
+pub push-last : (formed : Member) (q : InZ) → get_or (formed ++ q ∷ []) (length formed) [] ≡ q
 push-last [] q = refl
 push-last (p ∷ formed) q = push-last formed q
 
@@ -202,6 +202,11 @@ module _ {B : Type 0} {L : Field B} {Stands : InZ → B → Type 0} (h : StandsI
   -- the coefficients of m stand for those of P
   abbrev pub AreCoefficients : Member → Polynomial L → Type 0
   AreCoefficients m P = (i : ℕ) → Stands (get_or m i []) (coefficient L P i)
+
+  -- r is a list for P, and its last coefficient is not 0
+  pub record IsListOf (P : Polynomial L) (r : Member) : Type 0 where
+    pub are : AreCoefficients r P
+    pub leads_list : Leads r
 
   -- beyond the list
   past-is_zero : (m : Member) (P : Polynomial L) → AreCoefficients m P → (i : ℕ) → length m ≤ i → coefficient L P i ≡ L.zero
@@ -355,11 +360,6 @@ module _ {B : Type 0} {L : Field B} {Stands : InZ → B → Type 0} (h : StandsI
                 (g.each i _ _ (left-stands e r f.left R are_r f.is_left i (omega (arith, o))) (right-stands e r f.right R are_r f.is_right i (omega (arith, o)))))
 
     -- ---- the pseudo-remainder
-    -- r is a list for P, and its last coefficient is not 0
-    pub record IsListOf (P : Polynomial L) (r : Member) : Type 0 where
-      pub are : AreCoefficients r P
-      pub leads_list : Leads r
-
     steps-coefficients : (n : ℕ) (r result : Member) (R : Polynomial L) → IsListOf R r → length r ≤ n + k → pseudo_steps b n r ≡ Ok result → IsListOf (theory.pseudo_remainder L n R M) result
     unfolding theory.pseudo_remainder
     steps-coefficients zero r result R c l e = let same : r ≡ result = cc in subst (IsListOf R) same c
