@@ -2,3 +2,4 @@ pub mod PseudoRemainders
 pub mod StandingPolynomials
 pub mod StandingMembers
 pub mod StandingSequences
+pub mod FirstMembers

@@ -222,6 +222,15 @@ module _ {B : Type 0} {L : Field B} {Stands : InZ → B → Type 0} (h : StandsI
       let s = Degree.size-ge L P (length m) (h.some_is (leading (p ∷ m)) _ (leads (omega arith)) (subst (λ z. Stands z (coefficient L P (length m))) (sym (leading-get (p ∷ m) (length m) refl)) (c (length m)))) in
       omega (arith, l, s)
 
+  -- the last coefficient is not 0 where the list has the size of its polynomial
+  pub leads_of_size : (m : Member) (P : Polynomial L) → AreCoefficients m P → size L P ≡ length m → Leads m
+  leads_of_size [] P c e some = absurd (omega (arith, some))
+  leads_of_size (p ∷ m) P c e some = subst (λ z. 0 < length z) (sym (leading-get (p ∷ m) (length m) refl)) (nonempty (get_or (p ∷ m) (length m) []) (c (length m)))
+    where
+      nonempty : (q : InZ) → Stands q (coefficient L P (length m)) → 0 < length q
+      nonempty [] u = absurd (Degree.leading-nonzero L P (length m) e (h.zero_is (coefficient L P (length m)) u))
+      nonempty (x ∷ q) u = omega arith
+
   leading-stands : (b : Member) (M : Polynomial L) (k : ℕ) → length b ≡ suc k → Leads b → AreCoefficients b M → Stands (leading b) (leading_coefficient L M)
   leading-stands b M k l leads c =
       let s = size-coefficients b M leads c in

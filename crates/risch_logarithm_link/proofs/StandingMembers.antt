@@ -50,15 +50,16 @@ module _ {A : Type 0} (F : Field A) (f : RingMap F.ring elements.ring) where
   pub stands-size_bivariate : (m : Member) (M : List (Polynomial F)) → StandsForMember m M → size (fractions F) (bivariate F M) ≡ length m
   stands-size_bivariate m M h = size-coefficients (stands_in_fractions F f) m (bivariate F M) h.leads (stands-bivariate m M h.are)
 
-  values : (m : Member) → ((i : ℕ) → Some (StandsFor F f (get_or m i []))) → List (Polynomial F)
-  values [] h = []
-  values (p ∷ m) h = (h 0).value ∷ values m (λ i. h (suc i))
+  -- the polynomials for which the coefficients stand
+  pub values_of : (m : Member) → ((i : ℕ) → Some (StandsFor F f (get_or m i []))) → List (Polynomial F)
+  values_of [] h = []
+  values_of (p ∷ m) h = (h 0).value ∷ values_of m (λ i. h (suc i))
 
-  values-stand : (m : Member) (h : (i : ℕ) → Some (StandsFor F f (get_or m i []))) → AreAt m (coefficient_at F (values m h))
-  unfolding values
-  values-stand [] h i = Standing.stands-zero F f
-  values-stand (p ∷ m) h zero = (h 0).has_value
-  values-stand (p ∷ m) h (suc i) = values-stand m (λ i. h (suc i)) i
+  pub values_of-stand : (m : Member) (h : (i : ℕ) → Some (StandsFor F f (get_or m i []))) → AreAt m (coefficient_at F (values_of m h))
+  unfolding values_of
+  values_of-stand [] h i = Standing.stands-zero F f
+  values_of-stand (p ∷ m) h zero = (h 0).has_value
+  values_of-stand (p ∷ m) h (suc i) = values_of-stand m (λ i. h (suc i)) i
 
   -- the coefficients of B are in K[z] where a list stands for them
   pub record HasCoefficients (m : Member) (B : Polynomial (fractions F)) : Type 0 where
@@ -75,10 +76,10 @@ module _ {A : Type 0} (F : Field A) (f : RingMap F.ring elements.ring) where
   }
     where
       M : List (Polynomial F)
-      M = values m (λ i. record { value = (h i).value; has_value = (h i).has_value.0 })
+      M = values_of m (λ i. record { value = (h i).value; has_value = (h i).has_value.0 })
 
       stand : AreAt m (coefficient_at F M)
-      stand = values-stand m (λ i. record { value = (h i).value; has_value = (h i).has_value.0 })
+      stand = values_of-stand m (λ i. record { value = (h i).value; has_value = (h i).has_value.0 })
 
   -- ---- contents
   -- C is monic, divides each g_j, and is divided by what divides each

@@ -64,7 +64,7 @@ module _ {A : Type 0} (F : Field A) (f : RingMap F.ring elements.ring) where
   pub stands-zero_is : (P : Polynomial F) → StandsFor [] P → P ≡ (polynomials F).zero
   stands-zero_is P h = stands_unique [] P R.zero h stands-zero
 
-  map-neg : (P : Polynomial F) → m (R.neg P) ≡ S.neg (m P)
+  pub map-neg : (P : Polynomial F) → map_polynomial F elements f ((polynomials F).neg P) ≡ (polynomials elements).neg (map_polynomial F elements f P)
   map-neg P = RingMaps.apply-neg (Mapped.polynomial_map F elements f) P
 
   -- ---- the rules
