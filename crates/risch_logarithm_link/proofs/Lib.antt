@@ -3,3 +3,4 @@ pub mod StandingPolynomials
 pub mod StandingMembers
 pub mod StandingSequences
 pub mod FirstMembers
+pub mod StandingRemainders

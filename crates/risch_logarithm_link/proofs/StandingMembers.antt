@@ -61,6 +61,11 @@ module _ {A : Type 0} (F : Field A) (f : RingMap F.ring elements.ring) where
   values_of-stand (p ∷ m) h zero = (h 0).has_value
   values_of-stand (p ∷ m) h (suc i) = values_of-stand m (λ i. h (suc i)) i
 
+  pub values_of-length : (m : Member) (h : (i : ℕ) → Some (StandsFor F f (get_or m i []))) → length (values_of m h) ≡ length m
+  unfolding values_of
+  values_of-length [] h = refl
+  values_of-length (p ∷ m) h = ap suc (values_of-length m (λ i. h (suc i)))
+
   -- the coefficients of B are in K[z] where a list stands for them
   pub record HasCoefficients (m : Member) (B : Polynomial (fractions F)) : Type 0 where
     pub coefficients : List (Polynomial F)
@@ -185,6 +190,7 @@ module _ {A : Type 0} (F : Field A) (f : RingMap F.ring elements.ring) where
   -- ---- primitive parts
   -- r is `formed` with the quotients of the coefficients of m by c after it
   record AreQuotients (formed : Member) (C : Polynomial F) (m r : Member) : Type 0 where
+    long : length r ≡ length formed + length m
     first : (i : ℕ) → i < length formed → get_or r i [] ≡ get_or formed i []
     each : (i : ℕ) (P Q : Polynomial F) → StandsFor F f (get_or m i []) P → P ≡ (polynomials F).mul C Q → StandsFor F f (get_or r (length formed + i) []) Q
 
@@ -192,6 +198,7 @@ module _ {A : Type 0} (F : Field A) (f : RingMap F.ring elements.ring) where
   quotients-are [] formed r c C k some e =
       let same : formed ≡ r = cc in
       subst (AreQuotients formed C []) same (record {
+        long = omega arith;
         first = λ i l. refl;
         each = λ i P Q u q. subst (λ z. StandsFor F f z Q) (sym (get_or_past formed (length formed + i) [] (omega arith)))
             (subst (StandsFor F f [])
@@ -204,6 +211,7 @@ module _ {A : Type 0} (F : Field A) (f : RingMap F.ring elements.ring) where
     where
       of_rest : (q : InZ) → poly.quo element p c ≡ Ok q → AreQuotients (formed ++ q ∷ []) C m r → AreQuotients formed C (p ∷ m) r
       of_rest q is g = record {
+        long = let l = g.long in omega (arith, l, push-length formed q);
         first = λ i l. g.first i (omega (arith, l, push-length formed q)) ∙ get_or_append_left formed (q ∷ []) [] i l;
         each = each_of;
       }
@@ -221,6 +229,10 @@ module _ {A : Type 0} (F : Field A) (f : RingMap F.ring elements.ring) where
       subst (λ j. StandsFor F f (get_or r j []) (coefficient_at F (PrimitiveParts.primitive_part F M) i)) (omega arith)
       ((quotients-are m [] r c (content_of F M) k.stands (Standing.stands-some F f c (content_of F M) k.stands k.nonzero) e).each i
       (coefficient_at F M i) (coefficient_at F (PrimitiveParts.primitive_part F M) i) (h i) (PrimitiveParts.coefficient-primitive_part F M i))
+
+  pub quotients-length : (m r : Member) (M : List (Polynomial F)) (c : InZ) → IsStandingContent c M → quotients_onto [] m c ≡ Ok r → length r ≡ length m
+  quotients-length m r M c k e =
+      let l = (quotients-are m [] r c (content_of F M) k.stands (Standing.stands-some F f c (content_of F M) k.stands k.nonzero) e).long in omega (arith, l)
 
   -- a list that stands for the primitive part of M
   pub record IsStandingPart (r : Member) (M : List (Polynomial F)) : Type 0 where
