@@ -4,3 +4,4 @@ pub mod StandingMembers
 pub mod StandingSequences
 pub mod FirstMembers
 pub mod StandingRemainders
+pub mod StandingArguments
