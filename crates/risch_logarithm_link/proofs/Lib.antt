@@ -5,3 +5,5 @@ pub mod StandingSequences
 pub mod FirstMembers
 pub mod StandingRemainders
 pub mod StandingArguments
+pub mod StandingParts
+pub mod StandingLogarithms

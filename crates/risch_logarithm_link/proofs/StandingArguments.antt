@@ -46,7 +46,7 @@ module _ {A : Type 0} (F : Field A) (f : RingMap F.ring elements.ring) where
       identity : (x y z : Polynomial F) → (polynomials F).add (sub (polynomials F) x y) (sub (polynomials F) y z) ≡ sub (polynomials F) x z
       identity x y z = ring R (x ∷ y ∷ z ∷ []) (search reading depth 20 fits 9000) refl
 
-  congruent_sym : (D x y : Polynomial F) → Divides F D (sub R x y) → Divides F D (sub R y x)
+  pub congruent_sym : (D x y : Polynomial F) → Divides F D (sub (polynomials F) x y) → Divides F D (sub (polynomials F) y x)
   congruent_sym D x y h = subst (Divides F D) (identity x y) (Divides.divides-neg F D (sub R x y) h)
     where
       identity : (x y : Polynomial F) → (polynomials F).neg (sub (polynomials F) x y) ≡ sub (polynomials F) y x

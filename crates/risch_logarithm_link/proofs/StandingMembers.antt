@@ -26,7 +26,7 @@ use Rattle.risch_field.proofs.CheckedSteps.{and_then-ok}
 use Rattle.risch_polynomial.specs.Poly as poly
 use Rattle.risch_level.specs.Levels.{element}
 use Rattle.risch_sub.specs.RemainderSequence.{InZ, Member, sized, leading, divisor_with, divisor_of_all, content, quotients_onto, primitive_part}
-use Rattle.risch_logarithm_link.proofs.PseudoRemainders.{Leads, sized-is, trimmed-get, trimmed-leads, push-length, push-last, AreCoefficients, size-coefficients}
+use Rattle.risch_logarithm_link.proofs.PseudoRemainders.{Leads, sized-is, trimmed-get, trimmed-leads, leading-get, push-length, push-last, AreCoefficients, size-coefficients}
 use Rattle.risch_logarithm_link.proofs.StandingPolynomials as Standing
 use Rattle.risch_logarithm_link.proofs.StandingPolynomials.{StandsFor, stands_in_fractions}
 
@@ -186,6 +186,12 @@ module _ {A : Type 0} (F : Field A) (f : RingMap F.ring elements.ring) where
           same : k.value ≡ content_of F M
           same = Gcd.monic_antisymm F k.value (content_of F M) k.is_content.is_monic (content_of-is_monic M nonzero)
               (content-greatest F M k.value k.is_content.divides) (k.is_content.greatest (content_of F M) (content-divides F M))
+
+  -- the content of what is not 0 is not 0
+  pub content-nonzero : (m : Member) (M : List (Polynomial F)) → StandsForMember m M → 0 < length m → ¬ (content_of F M ≡ (polynomials F).zero)
+  content-nonzero m M h some z =
+      Standing.stands-nonzero F f (get_or m (length m - 1) []) (coefficient_at F M (length m - 1)) (h.are (length m - 1)) (subst (λ p. 0 < length p) (leading-get m (length m - 1) (omega (arith, some))) (h.leads some))
+      (Divides.zero_of_zero-divides F (coefficient_at F M (length m - 1)) (subst (λ c. Divides F c (coefficient_at F M (length m - 1))) z (content-divides F M (length m - 1))))
 
   -- ---- primitive parts
   -- r is `formed` with the quotients of the coefficients of m by c after it

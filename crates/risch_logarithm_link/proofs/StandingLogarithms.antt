@@ -1,0 +1,240 @@
+-- The logarithms of the square-free parts, as the rule forms them part by part: each is made of an argument of the theory.
+--     logarithms-stand      from the first part on
+use Rattle.std.specs.Prelude.{map, nat_eq, if◌then◌else◌}
+use Rattle.std.proofs.Common.{◌≡◌, refl, sym, ap, ◌∙◌, ℕ, zero, suc, ◌+◌, ◌≤◌, ◌<◌, Bool, true, false, List, [], ◌∷◌, ◌++◌, length, get_or, Option, None, Some, Ok, arith, subst, inl, inr, append-nil, append_assoc}
+use Rattle.std.proofs.lemmas.Bool.{eqb-true, eqb-false}
+use Rattle.std.proofs.lemmas.List.{length-map}
+use Rattle.risch_ring.specs.CommRing.{CommRing, Field, RingMap, Derivation, HasCharacteristicZero}
+use Rattle.risch_ring.specs.Lists.{Member as IsAmong}
+use Rattle.risch_fraction_field.specs.FractionField.{fractions}
+use Rattle.risch_univariate.specs.Polynomial.{Polynomial, coefficient, constant}
+use Rattle.risch_univariate.specs.PolynomialRing.{polynomials}
+use Rattle.risch_univariate.specs.Degree.{size, IsMonic}
+use Rattle.risch_univariate.specs.Division.{IsCoprime}
+use Rattle.risch_univariate.specs.SquareFreeParts.{product_of_powers, AreParts}
+use Rattle.risch_univariate.proofs.Degree as Degree
+use Rattle.risch_univariate.proofs.Derivation as PolynomialDerivation
+use Rattle.risch_univariate.proofs.Gcd as Gcd
+use Rattle.risch_residue_theory.specs.BivariatePolynomial.{bivariate, coefficient_at, residue_polynomial, content as content_of}
+use Rattle.risch_residue_theory.specs.Residue.{IsResiduePolynomial}
+use Rattle.risch_residue_theory.specs.RuleLogarithm.{IsRuleSequence, RuleLogarithm, IsDenominator, IsRuleArgument, AreRuleLogarithms}
+use Rattle.risch_residue_theory.proofs.InvertibleParts.{IsPartOf}
+use Rattle.risch_residue_theory.proofs.Place as Place
+use Rattle.risch_residue_theory.proofs.PrimitiveParts as PrimitiveParts
+use Rattle.risch_residue_theory.proofs.RuleArguments.{part-is_monic, rule_member_exists, rule_leading_coefficient-invertible}
+use Rattle.risch_mean.specs.ElementField.{elements}
+use Rattle.risch_field.specs.Checked.{Checked, and_then}
+use Rattle.risch_field.proofs.CheckedSteps.{and_then-ok}
+use Rattle.risch_polynomial.specs.Poly as poly
+use Rattle.risch_level.specs.Levels.{Element, element}
+use Rattle.risch_derivation.specs.Derivation.{derive_polynomial}
+use Rattle.risch_tower.specs.declared.level.Level.{Level}
+use Rattle.risch_tower.specs.Tower.{derivative, rate_at}
+use Rattle.risch_rootsum.specs.declared.integral.LogPart.{LogPart}
+use Rattle.risch_sub.specs.RemainderSequence.{InZ, Member, sized, remainders}
+use Rattle.risch_logarithm_rules.specs.Logarithms.{constant_in_z, differences_in_z, argument_of, member_of_degree, sequence, members_or, argument_for, logarithm, logarithms_from}
+use Rattle.risch_logarithm_link.proofs.FirstMembers.{IsStandingSequence, sequence-stands, coefficient-stands, constants-stand, difference}
+use Rattle.risch_logarithm_link.proofs.StandingPolynomials as Standing
+use Rattle.risch_logarithm_link.proofs.StandingPolynomials.{StandsFor}
+use Rattle.risch_logarithm_link.proofs.StandingMembers.{AreAt, stands-size_bivariate, values_of, values_of-stand, values_of-length}
+use Rattle.risch_logarithm_link.proofs.StandingArguments.{argument-stands}
+use Rattle.risch_logarithm_link.proofs.StandingParts.{part-is_one, part-long, part-not_one, HasMember, found-member, StandsForArgument, HasMonicPart, monic_part-of}
+
+module _ {A : Type 0} (F : Field A) (f : RingMap F.ring elements.ring) where
+  -- the lists stand for the parts, one by one
+  abbrev pub StandForParts : List InZ → List (Polynomial F) → Type 0
+  StandForParts [] [] = Unit
+  StandForParts [] (Q ∷ Qs) = ⊥
+  StandForParts (q ∷ qs) [] = ⊥
+  StandForParts (q ∷ qs) (Q ∷ Qs) = StandsFor F f q Q × StandForParts qs Qs
+
+  -- l is what the rule makes of lists for R and S
+  pub record IsMadeOf (level : ℕ) (l : LogPart) (r : RuleLogarithm F) : Type 0 where
+    pub modulus : InZ
+    pub modulus_stands : StandsFor F f modulus r.modulus
+    pub argument : Member
+    pub argument_stands : StandsForArgument F f argument r.argument
+    pub is_made : logarithm level modulus argument ≡ Ok l
+
+  abbrev pub AreMadeOf : ℕ → List LogPart → List (RuleLogarithm F) → Type 0
+  AreMadeOf level [] [] = Unit
+  AreMadeOf level [] (r ∷ rs) = ⊥
+  AreMadeOf level (l ∷ ls) [] = ⊥
+  AreMadeOf level (l ∷ ls) (r ∷ rs) = IsMadeOf level l r × AreMadeOf level ls rs
+
+  -- a part 1 is passed over
+  passed_over : (d : Polynomial F) (n : ℕ) (b : List (Polynomial F)) (ms : List (List (Polynomial F))) (i : ℕ) (Q : Polynomial F) (Qs : List (Polynomial F)) (rs : List (RuleLogarithm F)) → Q ≡ (polynomials F).one
+      → AreRuleLogarithms F d n b ms (suc i) Qs rs → AreRuleLogarithms F d n b ms i (Q ∷ Qs) rs
+  passed_over d n b ms i Q Qs [] e h = (e, h)
+  passed_over d n b ms i Q Qs (r ∷ rs) e h = inl (e, h)
+
+  -- the logarithms that follow those before, for a sequence of the theory
+  pub record HaveLogarithms (level : ℕ) (d : Polynomial F) (n : ℕ) (b : List (Polynomial F)) (ms : List (List (Polynomial F))) (i : ℕ) (Qs : List (Polynomial F)) (logs result : List LogPart) : Type 0 where
+    pub made : List LogPart
+    pub rs : List (RuleLogarithm F)
+    pub all : result ≡ logs ++ made
+    pub are_made : AreMadeOf level made rs
+    pub are_logarithms : AreRuleLogarithms F d n b ms i Qs rs
+
+  no_more : (level : ℕ) (d : Polynomial F) (n : ℕ) (b : List (Polynomial F)) (ms : List (List (Polynomial F))) (i : ℕ) (logs result : List LogPart) → logs ≡ result → HaveLogarithms level d n b ms i [] logs result
+  no_more level d n b ms i logs result e = record { made = []; rs = []; all = sym e ∙ sym (append-nil logs); are_made = tt; are_logarithms = tt }
+
+  pass : (level : ℕ) (d : Polynomial F) (n : ℕ) (b : List (Polynomial F)) (ms : List (List (Polynomial F))) (i : ℕ) (Q : Polynomial F) (Qs : List (Polynomial F)) (logs result : List LogPart) → Q ≡ (polynomials F).one
+      → HaveLogarithms level d n b ms (suc i) Qs logs result → HaveLogarithms level d n b ms i (Q ∷ Qs) logs result
+  pass level d n b ms i Q Qs logs result e h =
+      record { made = h.made; rs = h.rs; all = h.all; are_made = h.are_made; are_logarithms = passed_over d n b ms i Q Qs h.rs e h.are_logarithms }
+
+  -- one more logarithm, of the part Q
+  one_more : (level : ℕ) (d : Polynomial F) (n : ℕ) (b : List (Polynomial F)) (ms : List (List (Polynomial F))) (i : ℕ) (q : InZ) (Q : Polynomial F) (Qs : List (Polynomial F)) (logs result : List LogPart)
+      (S : Member) (argument : List (Polynomial F)) (l : LogPart) → StandsFor F f q Q → ¬ (Q ≡ (polynomials F).one) → StandsForArgument F f S argument → IsRuleArgument F d n b ms i Q argument
+      → logarithm level q S ≡ Ok l → HaveLogarithms level d n b ms (suc i) Qs (logs ++ l ∷ []) result → HaveLogarithms level d n b ms i (Q ∷ Qs) logs result
+  one_more level d n b ms i q Q Qs logs result S argument l u other v w is h = record {
+    made = l ∷ h.made;
+    rs = record { modulus = Q; argument = argument } ∷ h.rs;
+    all = h.all ∙ append_assoc logs (l ∷ []) h.made;
+    are_made = (record { modulus = q; modulus_stands = u; argument = S; argument_stands = v; is_made = is }, h.are_made);
+    are_logarithms = inr ((other, (refl, w)), h.are_logarithms);
+  }
+
+  -- ---- the argument d
+  -- the list of d as an argument
+  pub record HasDenominator (d : Polynomial F) (i : ℕ) (S : Member) : Type 0 where
+    pub argument : List (Polynomial F)
+    pub stands : StandsForArgument F f S argument
+    pub same_size : size F d ≡ suc i
+    pub equation : (j : ℕ) → coefficient_at F argument j ≡ constant F (coefficient F d j)
+
+  denominator-of : (p : List Element) (d : Polynomial F) (i : ℕ) → StandsFor F f p d → suc i ≡ length p → HasDenominator d i (map constant_in_z p)
+  denominator-of p d i h long = record {
+    argument = values_of F f (map constant_in_z p) values;
+    stands = record { are = stand; same_length = values_of-length F f (map constant_in_z p) values };
+    same_size = Standing.stands-size F f p d h ∙ sym long;
+    equation = λ j. Standing.stands_unique F f (get_or (map constant_in_z p) j []) (coefficient_at F (values_of F f (map constant_in_z p) values) j) (constant F (coefficient F d j)) (stand j) (at j);
+  }
+    where
+      at : (j : ℕ) → StandsFor F f (get_or (map constant_in_z p) j []) (constant F (coefficient F d j))
+      at = constants-stand F f p (coefficient F d) h.kept.all_valid (λ i. coefficient-stands F f p d i h)
+
+      values : (j : ℕ) → Place.Some (StandsFor F f (get_or (map constant_in_z p) j []))
+      values j = record { value = constant F (coefficient F d j); has_value = at j }
+
+      stand : AreAt F f (map constant_in_z p) (coefficient_at F (values_of F f (map constant_in_z p) values))
+      stand = values_of-stand F f (map constant_in_z p) values
+
+  denominator-is_argument : (d : Polynomial F) (i : ℕ) (S : Member) (h : HasDenominator d i S) (n : ℕ) (b : List (Polynomial F)) (ms : List (List (Polynomial F))) (Q : Polynomial F)
+      → IsRuleArgument F d n b ms i Q h.argument
+  denominator-is_argument d i S h n b ms Q = inl (record { same_size = h.same_size; equation = h.equation })
+
+module _ {A : Type 0} (F : Field A) (f : RingMap F.ring elements.ring) (D : Derivation F.ring) (w : Polynomial F) (char : HasCharacteristicZero F.ring) (d a : Polynomial F) (is_monic : IsMonic F d)
+    (coprime : IsCoprime F d (PolynomialDerivation.derive_polynomial F D w d)) (small_a : size F a ≤ size F d) (small_e : size F (PolynomialDerivation.derive_polynomial F D w d) ≤ size F d)
+    (C : Polynomial F) (C-monic : IsMonic F C) (C-size : size F C ≤ size F d) (residues : IsResiduePolynomial F D w d a C) (parts : List (Polynomial F)) (C-parts : C ≡ product_of_powers F 1 parts)
+    (are_parts : AreParts F parts) (tower : List Level) (level : ℕ) (numerator denominator : List Element) (stands_a : StandsFor F f numerator a) (stands_d : StandsFor F f denominator d)
+    (derived : (e : List Element) → derive_polynomial element (derivative tower) (rate_at tower level) denominator ≡ Ok e → StandsFor F f e (PolynomialDerivation.derive_polynomial F D w d)) where
+  abbrev e : Polynomial F
+  e = PolynomialDerivation.derive_polynomial F D w d
+
+  abbrev Among : ℕ → List (Polynomial F) → Type 0
+  Among i Qs = (k : ℕ) (q : Polynomial F) → IsPartOf F k q i Qs → IsPartOf F k q 1 parts
+
+  other_size : (i : ℕ) → nat_eq (suc i) (length denominator) ≡ false → ¬ (size F d ≡ suc i)
+  other_size i t s = eqb-false (suc i) (length denominator) t (sym s ∙ Standing.stands-size F f denominator d stands_d)
+
+  -- ---- the sequence
+  sequence-is : (least : ℕ) (result : List Member) → sequence tower level numerator denominator least ≡ Ok result → IsStandingSequence F f (suc least) denominator d a (PolynomialDerivation.derive_polynomial F D w d) result
+  unfolding sequence
+  sequence-is least result is =
+      let s = and_then-ok (derive_polynomial element (derivative tower) (rate_at tower level) denominator) (λ derived. and_then (sized (differences_in_z numerator derived)) (λ b. remainders (map constant_in_z denominator) b least)) result is in
+      let t = and_then-ok (sized (differences_in_z numerator s.value)) (λ b. remainders (map constant_in_z denominator) b least) result s.next in
+      let stands_e = derived s.value s.is in
+      let sa = Standing.stands-size F f numerator a stands_a in
+      let sd = Standing.stands-size F f denominator d stands_d in
+      let se = Standing.stands-size F f s.value e stands_e in
+      sequence-stands F f denominator numerator s.value d a e stands_d stands_a stands_e (omega (arith, sa, sd, small_a)) (omega (arith, sd, se, small_e)) t.value t.is least result t.next
+
+  -- the argument made of the member that the rule finds
+  member-argument : (least i : ℕ) (members : List Member) (q : InZ) (Q : Polynomial F) (S : Member) → (s : IsStandingSequence F f (suc least) denominator d a (PolynomialDerivation.derive_polynomial F D w d) members) → least ≤ i
+      → StandsFor F f q Q → 2 ≤ length q → IsPartOf F i Q 1 parts → nat_eq (suc i) (length denominator) ≡ false → argument_of (member_of_degree i members) q ≡ Ok S
+      → HasMonicPart F f d (suc least) s.b s.ms i Q S
+  member-argument least i members q Q S s low u large part t is =
+      of_member (rule_member_exists F D w char d a is_monic coprime small_a small_e (suc least) (omega arith) s.b s.ms s.is_sequence C C-monic C-size residues parts C-parts are_parts i Q part not_one (omega (arith, low)) (other_size i t))
+    where
+      not_one : ¬ (Q ≡ (polynomials F).one)
+      not_one = part-not_one F f q Q u large
+
+      skipped : member_of_degree i members ≡ member_of_degree i (s.second ∷ s.lists)
+      skipped = ap (member_of_degree i) s.all ∙ by_test (nat_eq (length (map constant_in_z denominator)) (suc i)) refl
+        where
+          by_test : (test : Bool) → nat_eq (length (map constant_in_z denominator)) (suc i) ≡ test
+              → (if test then map constant_in_z denominator else member_of_degree i (s.second ∷ s.lists)) ≡ member_of_degree i (s.second ∷ s.lists)
+          by_test true k = absurd (eqb-false (suc i) (length denominator) t (sym (eqb-true (length (map constant_in_z denominator)) (suc i) k) ∙ length-map denominator constant_in_z))
+          by_test false k = refl
+
+      of_member : Place.Some (λ m. IsAmong m (s.b ∷ s.ms) × (size (fractions F) (bivariate F m) ≡ suc i)) → HasMonicPart F f d (suc least) s.b s.ms i Q S
+      of_member y =
+          let found = found-member F f i (s.second ∷ s.lists) (s.b ∷ s.ms) s.stand y.value y.has_value.0 y.has_value.1 in
+          monic_part-of F f d (suc least) s.b s.ms i Q (member_of_degree i (s.second ∷ s.lists)) S (other_size i t) (omega (arith, low)) found
+          (argument-stands F f i (member_of_degree i (s.second ∷ s.lists)) found.polynomial_of q Q S found.stands found.long u large
+          (λ nonzero. rule_leading_coefficient-invertible F D w char d a is_monic coprime small_a small_e (suc least) (omega arith) s.b s.ms s.is_sequence C C-monic C-size residues parts C-parts are_parts i Q part not_one
+          (omega (arith, low)) (other_size i t) found.polynomial_of found.among (stands-size_bivariate F f (member_of_degree i (s.second ∷ s.lists)) found.polynomial_of found.stands ∙ found.long)
+          (content_of F found.polynomial_of) (PrimitiveParts.primitive_part F found.polynomial_of) (PrimitiveParts.coefficient-primitive_part F found.polynomial_of)
+          (PrimitiveParts.content-primitive_part F found.polynomial_of nonzero))
+          (subst (λ m. argument_of m q ≡ Ok S) skipped is))
+
+  -- ---- where the members are formed
+  -- the argument for the part with number i
+  record HasArgument (n : ℕ) (b : List (Polynomial F)) (ms : List (List (Polynomial F))) (i : ℕ) (Q : Polynomial F) (S : Member) : Type 0 where
+    argument : List (Polynomial F)
+    stands : StandsForArgument F f S argument
+    is_argument : IsRuleArgument F d n b ms i Q argument
+
+  argument-with : (least i : ℕ) (members : List Member) (q : InZ) (Q : Polynomial F) (found : Member × Option (List Member))
+      → (s : IsStandingSequence F f (suc least) denominator d a (PolynomialDerivation.derive_polynomial F D w d) members) → least ≤ i
+      → StandsFor F f q Q → 2 ≤ length q → IsPartOf F i Q 1 parts → argument_for tower level numerator denominator (Some members) i q ≡ Ok found
+      → HasArgument (suc least) s.b s.ms i Q found.0 × (found.1 ≡ Some members)
+  unfolding argument_for
+  argument-with least i members q Q found s low u large part is = by_test (nat_eq (suc i) (length denominator)) refl is
+    where
+      by_test : (test : Bool) → nat_eq (suc i) (length denominator) ≡ test
+          → (if test then Ok (map constant_in_z denominator, Some members) else and_then (argument_of (member_of_degree i members) q) (λ S. Ok (S, Some members))) ≡ Ok found
+          → HasArgument (suc least) s.b s.ms i Q found.0 × (found.1 ≡ Some members)
+      by_test true t is =
+          let same : (map constant_in_z denominator, Some members) ≡ found = cc in
+          let k = denominator-of F f denominator d i stands_d (eqb-true (suc i) (length denominator) t) in
+          subst (λ (x : Member × Option (List Member)). HasArgument (suc least) s.b s.ms i Q x.0 × (x.1 ≡ Some members)) same
+          (record { argument = k.argument; stands = k.stands; is_argument = denominator-is_argument F f d i (map constant_in_z denominator) k (suc least) s.b s.ms Q }, refl)
+      by_test false t is =
+          let x = and_then-ok (argument_of (member_of_degree i members) q) (λ S. Ok (S, Some members)) found is in
+          let same : (x.value, Some members) ≡ found = let next : Ok (x.value, Some members) ≡ Ok found = x.next in cc in
+          let k = member-argument least i members q Q x.value s low u large part t x.is in
+          subst (λ (x : Member × Option (List Member)). HasArgument (suc least) s.b s.ms i Q x.0 × (x.1 ≡ Some members)) same
+          (record { argument = k.argument; stands = k.stands; is_argument = inr k.is_part }, refl)
+
+  with_members : (least i : ℕ) (members : List Member) (qs : List InZ) (Qs : List (Polynomial F)) (logs result : List LogPart)
+      → (s : IsStandingSequence F f (suc least) denominator d a (PolynomialDerivation.derive_polynomial F D w d) members) → least ≤ i → StandForParts F f qs Qs → Among i Qs
+      → logarithms_from tower level numerator denominator i (Some members) logs qs ≡ Ok result → HaveLogarithms F f level d (suc least) s.b s.ms i Qs logs result
+  with_members least i members [] [] logs result s low h among is = let same : logs ≡ result = cc in no_more F f level d (suc least) s.b s.ms i logs result same
+  with_members least i members [] (Q ∷ Qs) logs result s low h among is = absurd h
+  with_members least i members (q ∷ qs) [] logs result s low h among is = absurd h
+  with_members least i members (q ∷ qs) (Q ∷ Qs) logs result s low h among is =
+      by_test (poly.is_one element q) refl is (λ logs k. with_members least (suc i) members qs Qs logs result s (omega (arith, low)) h.1 (λ k q x. among k q (inr x)) k)
+    where
+      part : IsPartOf F i Q 1 parts
+      part = among i Q (inl (refl, refl))
+
+      monic : IsMonic F Q
+      monic = part-is_monic F i Q 1 parts are_parts part
+
+      by_test : (test : Bool) → poly.is_one element q ≡ test
+          → (if test then logarithms_from tower level numerator denominator (suc i) (Some members) logs qs else
+          and_then (argument_for tower level numerator denominator (Some members) i q) (λ found. and_then (logarithm level q found.0) (λ l. logarithms_from tower level numerator denominator (suc i) found.1 (logs ++ l ∷ []) qs))) ≡ Ok result
+          → ((logs : List LogPart) → logarithms_from tower level numerator denominator (suc i) (Some members) logs qs ≡ Ok result → HaveLogarithms F f level d (suc least) s.b s.ms (suc i) Qs logs result)
+          → HaveLogarithms F f level d (suc least) s.b s.ms i (Q ∷ Qs) logs result
+      by_test true t is again = pass F f level d (suc least) s.b s.ms i Q Qs logs result (part-is_one F f q Q h.0 monic t) (again logs is)
+      by_test false t is again =
+          let large = part-long F f q Q h.0 monic t in
+          let x = and_then-ok (argument_for tower level numerator denominator (Some members) i q)
+          (λ found. and_then (logarithm level q found.0) (λ l. logarithms_from tower level numerator denominator (suc i) found.1 (logs ++ l ∷ []) qs)) result is in
+          let y = and_then-ok (logarithm level q x.value.0) (λ l. logarithms_from tower level numerator denominator (suc i) x.value.1 (logs ++ l ∷ []) qs) result x.next in
+          let k = argument-with least i members q Q x.value s low h.0 large part x.is in
+          one_more F f level d (suc least) s.b s.ms i q Q Qs logs result x.value.0 k.0.argument y.value h.0 (part-not_one F f q Q h.0 large) k.0.stands k.0.is_argument y.is
+          (again (logs ++ y.value ∷ []) (subst (λ m. logarithms_from tower level numerator denominator (suc i) m (logs ++ y.value ∷ []) qs ≡ Ok result) k.1 y.next))
