@@ -116,7 +116,7 @@ module _ {A : Type 0} (F : Field A) (f : RingMap F.ring elements.ring) where
   constants-stand (c ∷ d) x all h zero = constant_in_z-stands c (x 0) all.0 (h 0)
   constants-stand (c ∷ d) x all h (suc i) = constants-stand d (λ i. x (suc i)) all.1 (λ i. h (suc i)) i
 
-  difference-zero : (x y : A) → x ≡ F.zero → y ≡ F.zero → difference x y ≡ (polynomials F).zero
+  pub difference-zero : (x y : A) → x ≡ F.zero → y ≡ F.zero → difference x y ≡ (polynomials F).zero
   difference-zero x y e h =
       ap₂ (λ a b. R.add a (R.mul (R.neg (variable F)) b)) (ap (constant F) e ∙ Degree.constant-zero F) (ap (constant F) h ∙ Degree.constant-zero F)
       ∙ ap (R.add R.zero) (Laws.mul-zero R (R.neg (variable F))) ∙ R.add-zero R.zero

@@ -33,7 +33,7 @@ use Rattle.risch_tower.specs.Tower.{derivative, rate_at}
 use Rattle.risch_rootsum.specs.declared.integral.LogPart.{LogPart}
 use Rattle.risch_sub.specs.RemainderSequence.{InZ, Member, sized, remainders}
 use Rattle.risch_logarithm_rules.specs.Logarithms.{constant_in_z, differences_in_z, argument_of, member_of_degree, sequence, members_or, argument_for, logarithm, logarithms_from}
-use Rattle.risch_logarithm_link.proofs.FirstMembers.{IsStandingSequence, sequence-stands, coefficient-stands, constants-stand, difference}
+use Rattle.risch_logarithm_link.proofs.FirstMembers.{IsStandingSequence, sequence-stands, coefficient-stands, constants-stand, difference, difference-zero}
 use Rattle.risch_logarithm_link.proofs.StandingPolynomials as Standing
 use Rattle.risch_logarithm_link.proofs.StandingPolynomials.{StandsFor}
 use Rattle.risch_logarithm_link.proofs.StandingMembers.{AreAt, stands-size_bivariate, values_of, values_of-stand, values_of-length}
@@ -238,3 +238,117 @@ module _ {A : Type 0} (F : Field A) (f : RingMap F.ring elements.ring) (D : Deri
           let k = argument-with least i members q Q x.value s low h.0 large part x.is in
           one_more F f level d (suc least) s.b s.ms i q Q Qs logs result x.value.0 k.0.argument y.value h.0 (part-not_one F f q Q h.0 large) k.0.stands k.0.is_argument y.is
           (again (logs ++ y.value ∷ []) (subst (λ m. logarithms_from tower level numerator denominator (suc i) m (logs ++ y.value ∷ []) qs ≡ Ok result) k.1 y.next))
+
+  -- ---- from the first part on
+  -- a sequence of the theory, and the logarithms for it
+  pub record HaveSequence (i : ℕ) (Qs : List (Polynomial F)) (logs result : List LogPart) : Type 0 where
+    pub n : ℕ
+    pub positive : 1 ≤ n
+    pub b : List (Polynomial F)
+    pub ms : List (List (Polynomial F))
+    pub is_sequence : IsRuleSequence F n d a (PolynomialDerivation.derive_polynomial F D w d) b ms
+    pub have : HaveLogarithms F f level d n b ms i Qs logs result
+
+  -- g_0, .., g_(n-1)
+  first_of : ℕ → (ℕ → Polynomial F) → List (Polynomial F)
+  first_of zero g = []
+  first_of (suc n) g = g 0 ∷ first_of n (λ i. g (suc i))
+
+  first_of-at : (n : ℕ) (g : ℕ → Polynomial F) → ((j : ℕ) → n ≤ j → g j ≡ (polynomials F).zero) → (j : ℕ) → coefficient_at F (first_of n g) j ≡ g j
+  unfolding first_of
+  first_of-at zero g h j = sym (h j (omega arith))
+  first_of-at (suc n) g h zero = refl
+  first_of-at (suc n) g h (suc j) = first_of-at n (λ i. g (suc i)) (λ j l. h (suc j) (omega (arith, l))) j
+
+  -- where no member is asked for, b alone
+  empty_sequence : (i : ℕ) (logs result : List LogPart) → logs ≡ result → HaveSequence i [] logs result
+  empty_sequence i logs result same = record {
+    n = size F d;
+    positive = let s = Degree.size_of_nonzero F d (Gcd.monic-nonzero F d is_monic) in omega (arith, s);
+    b = b;
+    ms = [];
+    is_sequence = PrimitiveParts.rule_sequence-empty F d a e small_a small_e b (PrimitiveParts.residue_polynomial_of_coefficients F a e b (first_of-at (size F d) g beyond));
+    have = no_more F f level d (size F d) b [] i logs result same;
+  }
+    where
+      g : ℕ → Polynomial F
+      g j = difference F f (coefficient F a j) (coefficient F (PolynomialDerivation.derive_polynomial F D w d) j)
+
+      b : List (Polynomial F)
+      b = first_of (size F d) g
+
+      beyond : (j : ℕ) → size F d ≤ j → g j ≡ (polynomials F).zero
+      beyond j l = difference-zero F f (coefficient F a j) (coefficient F (PolynomialDerivation.derive_polynomial F D w d) j)
+          (Degree.below_size F a j (omega (arith, l, small_a))) (Degree.below_size F (PolynomialDerivation.derive_polynomial F D w d) j (omega (arith, l, small_e)))
+
+  -- the argument of a part, where no member is formed before: d, or one made of the members that are formed
+  with_sequence : (i : ℕ) (q : InZ) (Q : Polynomial F) (qs : List InZ) (Qs : List (Polynomial F)) (logs result : List LogPart) (found : Member × Option (List Member)) (l : LogPart)
+      → StandsFor F f q Q → 2 ≤ length q → IsPartOf F i Q 1 parts → StandForParts F f qs Qs → Among (suc i) Qs
+      → argument_for tower level numerator denominator None i q ≡ Ok found → logarithm level q found.0 ≡ Ok l
+      → logarithms_from tower level numerator denominator (suc i) found.1 (logs ++ l ∷ []) qs ≡ Ok result
+      → ((logs : List LogPart) → logarithms_from tower level numerator denominator (suc i) None logs qs ≡ Ok result → HaveSequence (suc i) Qs logs result) → HaveSequence i (Q ∷ Qs) logs result
+  unfolding argument_for
+  with_sequence i q Q qs Qs logs result found l u large part h among is made rest again = by_test (nat_eq (suc i) (length denominator)) refl is
+    where
+      by_test : (test : Bool) → nat_eq (suc i) (length denominator) ≡ test
+          → (if test then Ok (map constant_in_z denominator, None) else and_then (sequence tower level numerator denominator i) (λ ms. and_then (argument_of (member_of_degree i ms) q) (λ S. Ok (S, Some ms)))) ≡ Ok found
+          → HaveSequence i (Q ∷ Qs) logs result
+      by_test true t is =
+          let same : found ≡ (map constant_in_z denominator, None) = cc in
+          let k = denominator-of F f denominator d i stands_d (eqb-true (suc i) (length denominator) t) in
+          let y = again (logs ++ l ∷ []) (subst (λ (x : Member × Option (List Member)). logarithms_from tower level numerator denominator (suc i) x.1 (logs ++ l ∷ []) qs ≡ Ok result) same rest) in
+          record {
+            n = y.n;
+            positive = y.positive;
+            b = y.b;
+            ms = y.ms;
+            is_sequence = y.is_sequence;
+            have = one_more F f level d y.n y.b y.ms i q Q Qs logs result (map constant_in_z denominator) k.argument l u (part-not_one F f q Q u large) k.stands
+                (denominator-is_argument F f d i (map constant_in_z denominator) k y.n y.b y.ms Q)
+                (subst (λ (x : Member × Option (List Member)). logarithm level q x.0 ≡ Ok l) same made) y.have;
+          }
+      by_test false t is =
+          let x = and_then-ok (sequence tower level numerator denominator i) (λ ms. and_then (argument_of (member_of_degree i ms) q) (λ S. Ok (S, Some ms))) found is in
+          let y = and_then-ok (argument_of (member_of_degree i x.value) q) (λ S. Ok (S, Some x.value)) found x.next in
+          let same : found ≡ (y.value, Some x.value) = let next : Ok (y.value, Some x.value) ≡ Ok found = y.next in cc in
+          let s = sequence-is i x.value x.is in
+          let k = member-argument i i x.value q Q y.value s (omega arith) u large part t y.is in
+          record {
+            n = suc i;
+            positive = omega arith;
+            b = s.b;
+            ms = s.ms;
+            is_sequence = s.is_sequence;
+            have = one_more F f level d (suc i) s.b s.ms i q Q Qs logs result y.value k.argument l u (part-not_one F f q Q u large) k.stands (inr k.is_part)
+                (subst (λ (x : Member × Option (List Member)). logarithm level q x.0 ≡ Ok l) same made)
+                (with_members i (suc i) x.value qs Qs (logs ++ l ∷ []) result s (omega arith) h among
+                (subst (λ (x : Member × Option (List Member)). logarithms_from tower level numerator denominator (suc i) x.1 (logs ++ l ∷ []) qs ≡ Ok result) same rest));
+          }
+
+  pub logarithms-stand : (i : ℕ) (qs : List InZ) (Qs : List (Polynomial F)) (logs result : List LogPart) → StandForParts F f qs Qs → ((k : ℕ) (q : Polynomial F) → IsPartOf F k q i Qs → IsPartOf F k q 1 parts)
+      → logarithms_from tower level numerator denominator i None logs qs ≡ Ok result → HaveSequence i Qs logs result
+  logarithms-stand i [] [] logs result h among is = let same : logs ≡ result = cc in empty_sequence i logs result same
+  logarithms-stand i [] (Q ∷ Qs) logs result h among is = absurd h
+  logarithms-stand i (q ∷ qs) [] logs result h among is = absurd h
+  logarithms-stand i (q ∷ qs) (Q ∷ Qs) logs result h among is =
+      by_test (poly.is_one element q) refl is (λ logs k. logarithms-stand (suc i) qs Qs logs result h.1 (λ k q x. among k q (inr x)) k)
+    where
+      part : IsPartOf F i Q 1 parts
+      part = among i Q (inl (refl, refl))
+
+      monic : IsMonic F Q
+      monic = part-is_monic F i Q 1 parts are_parts part
+
+      by_test : (test : Bool) → poly.is_one element q ≡ test
+          → (if test then logarithms_from tower level numerator denominator (suc i) None logs qs else
+          and_then (argument_for tower level numerator denominator None i q) (λ found. and_then (logarithm level q found.0) (λ l. logarithms_from tower level numerator denominator (suc i) found.1 (logs ++ l ∷ []) qs))) ≡ Ok result
+          → ((logs : List LogPart) → logarithms_from tower level numerator denominator (suc i) None logs qs ≡ Ok result → HaveSequence (suc i) Qs logs result) → HaveSequence i (Q ∷ Qs) logs result
+      by_test true t is again =
+          let y = again logs is in
+          record { n = y.n; positive = y.positive; b = y.b; ms = y.ms; is_sequence = y.is_sequence; have = pass F f level d y.n y.b y.ms i Q Qs logs result (part-is_one F f q Q h.0 monic t) y.have }
+      by_test false t is again =
+          let large = part-long F f q Q h.0 monic t in
+          let x = and_then-ok (argument_for tower level numerator denominator None i q)
+          (λ found. and_then (logarithm level q found.0) (λ l. logarithms_from tower level numerator denominator (suc i) found.1 (logs ++ l ∷ []) qs)) result is in
+          let y = and_then-ok (logarithm level q x.value.0) (λ l. logarithms_from tower level numerator denominator (suc i) x.value.1 (logs ++ l ∷ []) qs) result x.next in
+          with_sequence i q Q qs Qs logs result x.value y.value h.0 large part h.1 (λ k q x. among k q (inr x)) x.is y.is y.next again
