@@ -14,7 +14,7 @@ use Rattle.risch_univariate.specs.Polynomial.{Polynomial, of_list, coefficient, 
 use Rattle.risch_univariate.specs.PolynomialLaws.{polynomial_ext, coefficient-of_list}
 use Rattle.risch_univariate.specs.PolynomialRing.{polynomials}
 use Rattle.risch_univariate.specs.Degree.{size, degree, leading_coefficient, IsMonic}
-use Rattle.risch_univariate.specs.Division.{Divides, IsGcd, IsCoprime, IsSquareFree}
+use Rattle.risch_univariate.specs.Division.{IsDivision, Divides, IsGcd, IsCoprime, IsSquareFree}
 use Rattle.risch_univariate.proofs.Degree as Degree
 use Rattle.risch_univariate.proofs.Divides as Divides
 use Rattle.risch_univariate.proofs.Division as Division
@@ -24,6 +24,7 @@ use Rattle.risch_univariate.proofs.Derivation.{formal_derivation}
 use Rattle.risch_univariate.proofs.SquareFree.{square_free_of_coprime, coprime_of_square_free}
 use Rattle.risch_univariate.specs.SquareFreeParts.{product_of_powers, AreParts}
 use Rattle.risch_extension.specs.PolynomialMap.{map_polynomial}
+use Rattle.risch_extension.specs.NewtonPolynomial.{power_trace}
 use Rattle.risch_extension.specs.Trace.{trace}
 use Rattle.risch_extension.proofs.PolynomialMaps as Maps
 use Rattle.risch_extension.proofs.Extensions.{map-formal_derivative, map-coprime}
@@ -216,3 +217,16 @@ module _ {A B : Type 0} (F : Field A) (G : Field B) (f : RingMap F.ring G.ring) 
           ∙ ap (λ v. coefficient G (Division.divide G (m P) n' v).remainder i)
           (Maps.map_polynomial-mul F G f (power R (variable F) i) u
           ∙ ap (λ v. S.mul v (m u)) (RingMaps.apply-power polynomial_map (variable F) i ∙ ap (λ v. power S v i) (Maps.map_polynomial-variable F G f)))
+
+  -- p_j over L for f(ρ) modulo f(d) is that for ρ modulo d
+  pub power_trace-map : (d : Polynomial F) (n : ¬ (d ≡ R.zero)) (n' : ¬ (map_polynomial F G f d ≡ S.zero)) (ρ : Polynomial F) (j : ℕ)
+      → f.apply (power_trace F d n ρ j) ≡ power_trace G (map_polynomial F G f d) n' (map_polynomial F G f ρ) j
+  power_trace-map d n n' ρ j = trace-map d n n' (power R ρ j) ∙ ap (trace G (m d) n') (RingMaps.apply-power polynomial_map ρ j)
+
+  -- f(p) = f(q)·f(d) + f(r) with deg f(r) < deg f(d) only if p = q·d + r with deg r < deg d
+  pub division_of_map : (p d q r : Polynomial F) → IsDivision G (map_polynomial F G f p) (map_polynomial F G f d) (map_polynomial F G f q) (map_polynomial F G f r) → IsDivision F p d q r
+  division_of_map p d q r h = record {
+    equation = map-injective p (R.add (R.mul q d) r)
+        (h.equation ∙ sym (Maps.map_polynomial-add F G f (R.mul q d) r ∙ ap (λ x. S.add x (m r)) (Maps.map_polynomial-mul F G f q d)));
+    smaller = let a = Maps.size-map_polynomial F G f r in let b = Maps.size-map_polynomial F G f d in let l = h.smaller in omega (arith, a, b, l);
+  }
