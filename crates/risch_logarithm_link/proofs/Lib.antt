@@ -7,3 +7,4 @@ pub mod StandingRemainders
 pub mod StandingArguments
 pub mod StandingParts
 pub mod StandingLogarithms
+pub mod NewtonCoefficients

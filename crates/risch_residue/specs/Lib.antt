@@ -1,4 +1,1 @@
-pub mod Newton
-pub mod Logarithms
-pub mod Residues
 pub mod ResiduesMeaning

@@ -14,8 +14,8 @@ use Rattle.risch_tower.specs.Tower.{rate_at}
 use Rattle.risch_tower.specs.TowerMeaning.{monomials}
 use Rattle.risch_rootsum.specs.declared.integral.LogPart.{LogPart}
 use Rattle.risch_rootsum.specs.DerivativeMeaning.{logarithms_of, sums_of, IsLogPart}
-use Rattle.risch_residue.specs.declared.residues.Residues.{Residues}
-use Rattle.risch_residue.specs.declared.residues.Residues.TheVariants.{Constant, NotConstant}
+use Rattle.risch_residue.specs.declared.outcome.Residues.{Residues}
+use Rattle.risch_residue.specs.declared.outcome.Residues.TheVariants.{Constant, NotConstant}
 
 -- what is added to h: η·p at an exponential
 abbrev pub surplus : Kind → mean.Element → mean.Element → mean.Element

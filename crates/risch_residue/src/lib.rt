@@ -1,15 +1,17 @@
 //! The logarithms of the residues of simple elements (Bronstein, Symbolic Integration I, sections 2.5 and 5.6: Rothstein, Trager, Lazard and Rioboo).
 //!
-//! [`residues`] tells of an element h = a/d of a level, proper and with d coprime with Dd, that its residues are not constant, with the power and the trace that show it; or it gives the logarithms whose derivatives add up to h, at an
-//! exponential to h + η·p for the sum p of the residues.
+//! The residues of an element h = a/d of a level, proper and with d coprime with Dd, are constant or not: [`Residues`]. Where they are constant, they have logarithms whose derivatives add up to h, at an exponential to h + η·p for the sum
+//! p of the residues.
 //!
-//! The rules are definitions: `specs/Newton.antt` (the characteristic polynomial of the residues by Newton's identities), `specs/Logarithms.antt` and `specs/Residues.antt` say which values are formed, in their order, and what they cost.
-//! What the answers are: `specs/ResiduesMeaning.antt`, and `risch_residue_traces/specs/TracesMeaning.antt` for residues that are not constant, by the definitions of `risch_mean`.
+//! The rules are definitions: `specs/Newton.antt` (the characteristic polynomial of the residues by Newton's identities) and `specs/Logarithms.antt` say which values are formed, in their order.
+//! What the answers are: `specs/ResiduesMeaning.antt`, by the definitions of `risch_mean`.
 #![tactic(auto)]
 
 mod argument;
+mod logarithm;
 mod logarithms;
+mod members;
 mod newton;
-mod residues;
+mod outcome;
 
-pub use residues::{Residues, residues};
+pub use outcome::Residues;

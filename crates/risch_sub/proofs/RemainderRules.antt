@@ -1,9 +1,9 @@
 -- What the rule of the primitive remainder sequence keeps: a property of the polynomials in z that their rules keep holds of each coefficient of each member.
 --     remainders-are_polynomials      the coefficients are in normal form
---     remainders-within      the variables that occur
+--     content-within, quotients-within, remainders-within      the variables that occur
 use Rattle.std.specs.Prelude.{nat_le, if◌then◌else◌, replicate}
 use Rattle.std.proofs.Common.{◌≡◌, refl, ap, ℕ, zero, suc, ◌+◌, ◌-◌, ◌<◌, Bool, true, false, List, [], ◌∷◌, ◌++◌, take, length, get_or, All, Ok, Err, arith, subst}
-use Rattle.std.proofs.lemmas.List.Elements.{All-nil, All-cons, All-head, All-tail, All-push, All-replicate, All-take, All-weaker}
+use Rattle.std.proofs.lemmas.List.Elements.{All-nil, All-cons, All-head, All-tail, All-push, All-replicate, All-take}
 use Rattle.risch_univariate.specs.Degree.{IsMonic}
 use Rattle.risch_mean.specs.ElementField.{elements}
 use Rattle.risch_field.specs.Checked.{Checked, and_then}
@@ -20,15 +20,16 @@ use Rattle.risch_element_theory.proofs.PolynomialsWithin.{within-closed}
 use Rattle.risch_sub.specs.RemainderSequence.{InZ, Member, weight, with_first, trimmed, sized, leading, products_onto, differences_onto, pseudo_step, pseudo_steps, pseudo_remainder, divisor_with, divisor_of_all, content, quotients_onto, primitive_part, next_member, remainders_from, remainders}
 use Rattle.risch_sub.proofs.SquareFreeRules.{monic-not_nil}
 
--- the rules on polynomials in z keep the property P, and common divisors with what is not 0 are not 0
-record Keeps (P : InZ → Type 0) : Type 0 where
+-- the rules on polynomials in z keep the property P where divisors have the property Q, which what is not 0 has, and common divisors with what has it
+record Keeps (P Q : InZ → Type 0) : Type 0 where
+  some_in : (p : InZ) → 0 < length p → Q p
   zero_in : P []
   negative_in : (p : InZ) → P p → P (poly.negatives element p)
   sum_in : (p q r : InZ) → P p → P q → poly.sum element p q ≡ Ok r → P r
   product_in : (p q r : InZ) → P p → P q → poly.product element p q ≡ Ok r → P r
-  monic_in : (p r : InZ) → P p → 0 < length p → poly.monic element p ≡ Ok r → P r × (0 < length r)
-  divisor_in : (g p r : InZ) → P g → P p → 0 < length p → poly.gcd element g p ≡ Ok r → P r × (0 < length r)
-  quotient_in : (p c r : InZ) → P p → P c → 0 < length c → poly.quo element p c ≡ Ok r → P r
+  monic_in : (p r : InZ) → P p → Q p → poly.monic element p ≡ Ok r → P r × Q r
+  divisor_in : (g p r : InZ) → P g → P p → 0 < length p → poly.gcd element g p ≡ Ok r → P r × Q r
+  quotient_in : (p c r : InZ) → P p → P c → Q c → poly.quo element p c ≡ Ok r → P r
 
 -- the leading coefficient is not 0
 abbrev Leads : Member → Type 0
@@ -68,11 +69,11 @@ formed_step b r next e is =
     let second = limited-ok (products_onto (replicate e []) (get_or r (e + (length b - 1)) []) (take (length b - 1) b)) (λ n. and_then (differences_onto [] first.value n) sized) next first.next in
     record { left = first.value; right = second.value; is_left = first.is; is_right = second.is; is_next = second.next }
 
-module _ {P : InZ → Type 0} (h : Keeps P) where
-  -- each coefficient has the property, and the last is not 0
+module _ {P Q : InZ → Type 0} (h : Keeps P Q) where
+  -- each coefficient has the property, and the last may divide
   record IsMember (m : Member) : Type 0 where
     all : All P m
-    leads : Leads m
+    leads : 0 < length m → Q (leading m)
 
   -- ---- lists of coefficients
   get-keeps : (m : Member) (i : ℕ) → All P m → P (get_or m i [])
@@ -97,7 +98,7 @@ module _ {P : InZ → Type 0} (h : Keeps P) where
   sized-keeps : (m r : Member) → All P m → sized m ≡ Ok r → IsMember r
   sized-keeps m r all e =
       let is = sized-is m r e in
-      record { all = subst (All P) is (trimmed-keeps m all); leads = subst Leads is (trimmed-leads m) }
+      record { all = subst (All P) is (trimmed-keeps m all); leads = λ some. h.some_in (leading r) (subst Leads is (trimmed-leads m) some) }
 
   products-keep : (m formed r : Member) (c : InZ) → All P formed → P c → All P m → products_onto formed c m ≡ Ok r → All P r
   products-keep [] formed r c all_formed v all e = let same : formed ≡ r = cc in subst (All P) same all_formed
@@ -118,7 +119,7 @@ module _ {P : InZ → Type 0} (h : Keeps P) where
       (h.sum_in p (poly.negatives element q) s.value (All-head P p m all_m) (h.negative_in q (All-head P q n all_n)) s.is))
       (All-tail P p m all_m) (All-tail P q n all_n) s.next
 
-  quotients-keep : (m formed r : Member) (c : InZ) → All P formed → P c → 0 < length c → All P m → quotients_onto formed m c ≡ Ok r → All P r
+  quotients-keep : (m formed r : Member) (c : InZ) → All P formed → P c → Q c → All P m → quotients_onto formed m c ≡ Ok r → All P r
   quotients-keep [] formed r c all_formed v some all e = let same : formed ≡ r = cc in subst (All P) same all_formed
   quotients-keep (p ∷ m) formed r c all_formed v some all e =
       let s = and_then-ok (poly.quo element p c) (λ q. quotients_onto (formed ++ q ∷ []) m c) r e in
@@ -152,18 +153,18 @@ module _ {P : InZ → Type 0} (h : Keeps P) where
   remainder-keeps a b r k all_b e = steps-keep b all_b (length a + 1 - length b) a r k e
 
   -- ---- the content
-  divisor-keeps : (p g r : InZ) → P g → 0 < length g → P p → divisor_with g p ≡ Ok r → P r × (0 < length r)
-  divisor-keeps [] g r v some w e = let same : g ≡ r = cc in subst (λ g. P g × (0 < length g)) same (v, some)
+  divisor-keeps : (p g r : InZ) → P g → Q g → P p → divisor_with g p ≡ Ok r → P r × Q r
+  divisor-keeps [] g r v some w e = let same : g ≡ r = cc in subst (λ g. P g × Q g) same (v, some)
   divisor-keeps (c ∷ p) g r v some w e = h.divisor_in g (c ∷ p) r v w (omega arith) e
 
-  divisors-keep : (m : Member) (g r : InZ) → P g → 0 < length g → All P m → divisor_of_all m g ≡ Ok r → P r × (0 < length r)
-  divisors-keep [] g r v some all e = let same : g ≡ r = cc in subst (λ g. P g × (0 < length g)) same (v, some)
+  divisors-keep : (m : Member) (g r : InZ) → P g → Q g → All P m → divisor_of_all m g ≡ Ok r → P r × Q r
+  divisors-keep [] g r v some all e = let same : g ≡ r = cc in subst (λ g. P g × Q g) same (v, some)
   divisors-keep (p ∷ m) g r v some all e =
       let s = and_then-ok (divisor_of_all m g) (λ d. divisor_with d p) r e in
       let x = divisors-keep m g s.value v some (All-tail P p m all) s.is in
       divisor-keeps p s.value r x.0 x.1 (All-head P p m all) s.next
 
-  content-keeps : (m : Member) (c : InZ) → IsMember m → 0 < length m → content m ≡ Ok c → P c × (0 < length c)
+  content-keeps : (m : Member) (c : InZ) → IsMember m → 0 < length m → content m ≡ Ok c → P c × Q c
   unfolding content
   content-keeps m c k some e =
       let s = and_then-ok (poly.monic element (leading m)) (divisor_of_all (take (length m - 1) m)) c e in
@@ -199,7 +200,7 @@ module _ {P : InZ → Type 0} (h : Keeps P) where
           let s = and_then-ok (pseudo_remainder a b) (next_member (λ m. remainders_from least steps (members ++ m ∷ []) b m) members) result e in
           next-keeps members result (λ m. remainders_from least steps (members ++ m ∷ []) b m) s.value all (remainder-keeps a b s.value k l.all s.is) again s.next
 
-  remainders-keep : (d b : Member) (least : ℕ) (result : List Member) → All P d → All P b → 0 < length (leading d) → 0 < length (leading b) → remainders d b least ≡ Ok result → All (All P) result
+  remainders-keep : (d b : Member) (least : ℕ) (result : List Member) → All P d → All P b → Q (leading d) → Q (leading b) → remainders d b least ≡ Ok result → All (All P) result
   unfolding remainders
   remainders-keep d b least result all_d all_b lead_d lead_b e =
       sequence-keeps least (length b) (d ∷ b ∷ []) result d b (All-cons (All P) d (b ∷ []) all_d (All-cons (All P) b [] all_b (All-nil (All P))))
@@ -220,8 +221,9 @@ quotient-is_polynomial p c r k l some e =
     let same : s.value.0 ≡ r = let next : Ok s.value.0 ≡ Ok r = s.next in cc in
     subst IsPolynomial same (Polynomials.quotient-is_polynomial p c s.value.0 s.value.1 k l some s.is)
 
-keeps_polynomials : Keeps IsPolynomial
+keeps_polynomials : Keeps IsPolynomial (λ p. 0 < length p)
 keeps_polynomials = record {
+  some_in = λ p some. some;
   zero_in = Polynomials.zero-is_polynomial;
   negative_in = λ p k. Polynomials.negatives-is_polynomial p (poly.negatives element p) k refl;
   sum_in = Polynomials.sum-is_polynomial;
@@ -236,22 +238,23 @@ pub remainders-are_polynomials : (d b : Member) (least : ℕ) (result : List Mem
 remainders-are_polynomials d b least result all_d all_b lead_d lead_b e = remainders-keep keeps_polynomials d b least result all_d all_b lead_d lead_b e
 
 -- ---- the variables that occur
-abbrev IsPolynomialWithin : ℕ → InZ → Type 0
-IsPolynomialWithin n p = IsPolynomial p × AllWithin n p
-
-keeps_variables : (n : ℕ) → Keeps (IsPolynomialWithin n)
+keeps_variables : (n : ℕ) → Keeps (AllWithin n) (λ p. Unit {0})
 keeps_variables n = record {
-  zero_in = (keeps_polynomials.zero_in, tt);
-  negative_in = λ p k. (keeps_polynomials.negative_in p k.0, Within.negatives-within n p (poly.negatives element p) k.1 refl);
-  sum_in = λ p q r k l e. (keeps_polynomials.sum_in p q r k.0 l.0 e, Within.sum-within n p q r k.1 l.1 e);
-  product_in = λ p q r k l e. (keeps_polynomials.product_in p q r k.0 l.0 e, Within.product-within n p q r k.1 l.1 e);
-  monic_in = λ p r k some e. let x = keeps_polynomials.monic_in p r k.0 some e in ((x.0, Within.monic-within n p r k.1 e), x.1);
-  divisor_in = λ g p r k l some e. let x = keeps_polynomials.divisor_in g p r k.0 l.0 some e in ((x.0, Within.gcd-within n g p r k.1 l.1 e), x.1);
-  quotient_in = λ p c r k l some e. (keeps_polynomials.quotient_in p c r k.0 l.0 some e, Properties.quo-keeps (within-closed n) p c r k.1 l.1 e);
+  some_in = λ p some. tt;
+  zero_in = tt;
+  negative_in = λ p all. Within.negatives-within n p (poly.negatives element p) all refl;
+  sum_in = Within.sum-within n;
+  product_in = Within.product-within n;
+  monic_in = λ p r all some e. (Within.monic-within n p r all e, tt);
+  divisor_in = λ g p r all_g all some e. (Within.gcd-within n g p r all_g all e, tt);
+  quotient_in = λ p c r all all_c some e. Properties.quo-keeps (within-closed n) p c r all all_c e;
 }
 
-pub remainders-within : (n : ℕ) (d b : Member) (least : ℕ) (result : List Member) → All IsPolynomial d → All IsPolynomial b → 0 < length (leading d) → 0 < length (leading b) →
-    All (AllWithin n) d → All (AllWithin n) b → remainders d b least ≡ Ok result → All (All (AllWithin n)) result
-remainders-within n d b least result kept_d kept_b lead_d lead_b all_d all_b e =
-    All-weaker (All (IsPolynomialWithin n)) (All (AllWithin n)) (λ m all. All-weaker (IsPolynomialWithin n) (AllWithin n) (λ p k. k.1) m all) result
-    (remainders-keep (keeps_variables n) d b least result (λ k q below. (kept_d k q below, all_d k q below)) (λ k q below. (kept_b k q below, all_b k q below)) lead_d lead_b e)
+pub content-within : (n : ℕ) (m : Member) (c : InZ) → All (AllWithin n) m → 0 < length m → content m ≡ Ok c → AllWithin n c
+content-within n m c all some e = (content-keeps (keeps_variables n) m c (record { all = all; leads = λ some. tt }) some e).0
+
+pub quotients-within : (n : ℕ) (m r : Member) (c : InZ) → All (AllWithin n) m → AllWithin n c → quotients_onto [] m c ≡ Ok r → All (AllWithin n) r
+quotients-within n m r c all all_c e = quotients-keep (keeps_variables n) m [] r c (All-nil (AllWithin n)) all_c tt all e
+
+pub remainders-within : (n : ℕ) (d b : Member) (least : ℕ) (result : List Member) → All (AllWithin n) d → All (AllWithin n) b → remainders d b least ≡ Ok result → All (All (AllWithin n)) result
+remainders-within n d b least result all_d all_b e = remainders-keep (keeps_variables n) d b least result all_d all_b tt tt e

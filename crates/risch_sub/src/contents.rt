@@ -35,7 +35,7 @@ fn divisor_of_all(alloc: Global, of: &[Inner], divisor: Inner) -> Result<Inner, 
 /// The monic common divisor of the coefficients of m, which is not 0.
 ///
 /// Stops: that of the monic leading coefficient, and those of the common divisors.
-fn content(alloc: Global, of: &[Inner]) -> Result<Inner, Fail>
+pub fn content(alloc: Global, of: &[Inner]) -> Result<Inner, Fail>
     requires { 0 < length of.now }
     ensures { Agrees result (spec.content of.now) }
 {
@@ -45,7 +45,9 @@ fn content(alloc: Global, of: &[Inner]) -> Result<Inner, Fail>
 }
 
 /// Appends m_0 quo c, m_1 quo c, ..
-fn push_quotients(
+///
+/// Stops: that of the first quotient that cannot be formed.
+pub fn push_quotients(
     alloc: Global,
     to: &mut Vec<Inner>,
     items: &[Inner],

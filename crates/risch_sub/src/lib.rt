@@ -8,15 +8,17 @@
 //! The rules are definitions: `specs/SquareFree.antt`, `specs/PowerTraces.antt` and `specs/RemainderSequence.antt`. The contract of a call has the clauses `rule` (the answer is the value of the rule, or its stop, or want of memory, about which nothing is said), `meaning` (what the
 //! value is, in K[t] and in the algebra of `risch_mean`: `specs/SquareFreeMeaning.antt`, `specs/PowerTracesMeaning.antt`), and `within` (which variables occur).
 //!
+//! The public modules have the same rules as functions on polynomials of `risch_polynomial`, which have no conditions on their degrees and say nothing of what the values mean.
+//!
 //! Not promised here: what the members of a remainder sequence mean.
 #![tactic(auto)]
 
-mod contents;
-mod members;
-mod polynomials;
+pub mod contents;
+pub mod members;
+pub mod polynomials;
 mod power_traces;
-mod remainder_sequence;
-mod square_free_parts;
+pub mod remainder_sequence;
+pub mod square_free_parts;
 
 pub use power_traces::characteristic;
 pub use remainder_sequence::{ZPoly, ZPolyList, remainders};

@@ -12,7 +12,7 @@ use risch_elem::{Fail, Items, PolyList};
 use std::alloc::{AllocError, Global};
 
 /// A polynomial in t over the polynomials in z.
-pub(crate) type Member = Items<Inner>;
+pub type Member = Items<Inner>;
 
 /// How many coefficients there are up to the last that is not 0.
 fn trimmed_length(member: &[Inner]) -> usize
@@ -45,7 +45,7 @@ fn is_light(member: &[Inner]) -> bool
 ///
 /// Stops: Size where the weight is beyond its limit.
 #[tactic(auto, unfolding(crate::specs::RemainderSequence::sized))]
-pub(crate) fn sized(member: Vec<Inner>) -> Result<Member, Fail>
+pub fn sized(member: Vec<Inner>) -> Result<Member, Fail>
     ensures { Agrees result (spec.sized member.items) }
 {
     let mut member = member;

@@ -7,7 +7,7 @@ use risch_elem::{Elem, Items, Poly, PolyList};
 use std::alloc::{AllocError, Global};
 
 /// A polynomial over the elements by the arithmetic that is whole over every field.
-pub(crate) type Inner = risch_polynomial::Poly<Elem>;
+pub type Inner = risch_polynomial::Poly<Elem>;
 
 /// The same polynomials, whose coefficients are in normal form.
 pub(crate) fn wrapped(alloc: Global, from: Items<Inner>) -> Result<PolyList, AllocError>

@@ -61,8 +61,10 @@ fn finished(
 }
 
 /// R_0 = d, R_1 = b, .. to the last member that is formed.
+///
+/// Stops: that of the first value that cannot be formed, of the pseudo-remainders and of their primitive parts.
 #[tactic(auto, using(crate::proofs::RemainderSteps::sequences), unfolding(crate::specs::RemainderSequence::remainders))]
-fn sequence(alloc: Global, d: Member, b: Member, least: u16) -> Result<Items<Member>, Fail>
+pub fn sequence(alloc: Global, d: Member, b: Member, least: u16) -> Result<Items<Member>, Fail>
     ensures { Agrees result (spec.remainders d b least) }
 {
     let mut members = Items::new(alloc);

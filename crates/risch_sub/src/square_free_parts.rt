@@ -36,8 +36,10 @@ fn parts_from(alloc: Global, steps: usize, w: Inner, c: Inner) -> Result<Items<I
 }
 
 /// The parts of p.
+///
+/// Stops: those of ∂p, of the common divisors and of the divisions by them.
 #[tactic(auto, using(risch_field::proofs::CheckedSteps::stop_passes, risch_field::proofs::CheckedSteps::value_passes), unfolding(crate::specs::SquareFree::square_free_parts))]
-fn square_free_parts(alloc: Global, of: &Inner) -> Result<Items<Inner>, Fail>
+pub fn square_free_parts(alloc: Global, of: &Inner) -> Result<Items<Inner>, Fail>
     ensures { Agrees result (spec.square_free_parts of.now) }
 {
     let derivative = of.partial(alloc)?;

@@ -21,6 +21,4 @@ wrapped_members-requires c =
 
 pub returns-clause-within : goal.returns-clause-within
 returns-clause-within c n all_d all_b =
-    let x = (goal.at.returns-clause-within c).In_ok-members in
-    rw c.in_ok-wrapped_members.ensures
-    (remainders-within n c.args.d.now c.args.b.now c.args.least c.in_ok-members.members (dividend_kept x) (divisor_kept x) c.requires.dividend c.requires.divisor all_d all_b (formed x))
+    rw c.in_ok-wrapped_members.ensures (remainders-within n c.args.d.now c.args.b.now c.args.least c.in_ok-members.members all_d all_b (formed (goal.at.returns-clause-within c).In_ok-members))

@@ -1,0 +1,5 @@
+pub mod ArgumentSteps
+pub mod LogarithmSteps
+pub mod MemberSteps
+pub mod NewtonRules
+pub mod NewtonSteps
