@@ -7,9 +7,10 @@ use Rattle.std.proofs.lemmas.List.{reverse-append}
 use native.Mathlib.Decide.{dec_le}
 use Rattle.risch_ring.specs.CommRing.{CommRing, Field, RingMap, HasCharacteristicZero, of_nat}
 use Rattle.risch_ring.proofs.FieldLaws as FieldLaws
-use Rattle.risch_ring.proofs.Expression.{nat-is}
+use Rattle.risch_ring.proofs.Expression.{reading, nat-is}
 use Rattle.risch_ring.proofs.Laws as Laws
 use Rattle.risch_ring.proofs.RingMaps as RingMaps
+use Rattle.risch_ring.proofs.Solver.{ring}
 use Rattle.risch_univariate.specs.Polynomial.{Polynomial, of_list, coefficient}
 use Rattle.risch_univariate.specs.PolynomialLaws.{coefficient-of_list}
 use Rattle.risch_univariate.specs.PolynomialRing.{polynomials}
@@ -49,7 +50,18 @@ inverse_of-mul : (i : ℕ) → 0 < i → i < 2 ^ 16 → mean.mul (meaning (inver
 inverse_of-mul i some small = by_value (fraction.quotient (pos 1) (pos i)) (lowest-of i some small) (quotient-value (pos 1) (pos i) (λ e. let same : i ≡ 0 = cc in omega arith)) (number-stands (fraction.quotient (pos 1) (pos i)))
   where
     by_value : (q : Fraction) → IsLowest q → q.num *ℤ pos i ≡ pos 1 *ℤ pos q.den → meaning (number 5 q) ≡ fraction_meaning q → mean.mul (meaning (number 5 q)) (of_nat elements.ring i) ≡ mean.one
-    by_value q l e m = ?
+    by_value q l e m =
+        ap₂ mean.mul m (sym (integer-is (pos i) ∙ nat-is elements.ring i))
+        ∙ mul_cancel (mean.mul (fraction_meaning q) (integer (pos i))) mean.one (integer (pos q.den)) nonzero
+        (moved (fraction_meaning q) (integer (pos i)) (integer (pos q.den))
+        ∙ ap (λ (x : mean.Element). mean.mul x (integer (pos i))) (over-mul (integer q.num) (integer (pos q.den)) nonzero)
+        ∙ sym (integer-mul q.num (pos i)) ∙ ap integer e ∙ integer-mul (pos 1) (pos q.den) ∙ ap (λ (x : mean.Element). mean.mul x (integer (pos q.den))) integer-one)
+      where
+        nonzero : ¬ (integer (pos q.den) ≡ mean.zero)
+        nonzero = integer-ne-zero (pos q.den) (λ z. let some = l.positive in let same : q.den ≡ 0 = cc in absurd (omega arith))
+
+        moved : (x a b : mean.Element) → mean.mul (mean.mul x a) b ≡ mean.mul (mean.mul x b) a
+        moved x a b = ring elements.ring (x ∷ a ∷ b ∷ []) (search reading depth 30 fits 4000) refl
 
 module _ {A : Type 0} (F : Field A) where
   open F use {zero as 𝟘, one as 𝟙, add as ◌⊕◌, mul as ◌⊗◌, neg as ⊖◌}
@@ -98,11 +110,11 @@ module _ {A : Type 0} (F : Field A) where
     up_to-symmetric : (n k : ℕ) → k ≤ n → up_to n k ≡ symmetric k
     unfolding symmetric
     up_to-symmetric zero k l = ap (λ i. up_to i k) (let e : 0 ≡ k = omega (arith, l) in e)
-    up_to-symmetric (suc n) k l = by (dec_le k n)
+    up_to-symmetric (suc n) k l = by (dec_le k n) (up_to-symmetric n k)
       where
-        by : Dec (k ≤ n) → up_to (suc n) k ≡ up_to k k
-        by (yes m) = up_to-kept n k m ∙ up_to-symmetric n k m
-        by (no m) = ap (λ i. up_to i k) (let e : suc n ≡ k = omega (arith, l, m) in e)
+        by : Dec (k ≤ n) → (k ≤ n → up_to n k ≡ up_to k k) → up_to (suc n) k ≡ up_to k k
+        by (yes m) again = up_to-kept n k m ∙ again m
+        by (no m) again = ap (λ i. up_to i k) (let e : suc n ≡ k = omega (arith, l, m) in e)
 
     up_to-next : (n : ℕ) → up_to (suc n) (suc n) ≡ F.inverse (of_nat F.ring (suc n)) ⊗ alternating F.ring (up_to n) P n
     unfolding up_to either
@@ -126,3 +138,112 @@ module _ {A : Type 0} (F : Field A) where
         ap (F.mul (of_nat F.ring (suc i))) (symmetric-next i)
         ∙ sym (F.mul_assoc (of_nat F.ring (suc i)) (F.inverse (of_nat F.ring (suc i))) (alternating F.ring symmetric P i))
         ∙ ap (λ x. F.mul x (alternating F.ring symmetric P i)) (F.mul-inverse (of_nat F.ring (suc i)) (char i)) ∙ Laws.one-mul F.ring (alternating F.ring symmetric P i)
+
+-- ---- the rule
+-- the sign of the terms
+parity : Bool → ℕ → Bool
+parity b zero = b
+parity b (suc n) = parity (not b) n
+
+parity-not : (b : Bool) (n : ℕ) → parity (not b) n ≡ not (parity b n)
+unfolding parity
+parity-not b zero = refl
+parity-not b (suc n) = parity-not (not b) n
+
+parity-suc : (b : Bool) (n : ℕ) → parity b (suc n) ≡ not (parity b n)
+unfolding parity
+parity-suc b n = parity-not b n
+
+alternating-push : (b : Bool) (es : List Element) (x : Element) → rule.alternating b (es ++ x ∷ []) ≡ rule.alternating b es ++ poly.signed element (parity b (length es)) x ∷ []
+unfolding parity
+alternating-push b [] x = refl
+alternating-push b (e ∷ es) x = ap (λ (l : List Element). poly.signed element b e ∷ l) (alternating-push (not b) es x)
+
+abbrev by_sign : Bool → mean.Element → mean.Element
+by_sign false x = x
+by_sign true x = mean.neg x
+
+module _ {A : Type 0} (F : Field A) (f : RingMap F.ring elements.ring) where
+  -- c is in normal form and stands for f(x)
+  pub record IsImage (c : Element) (x : A) : Type 0 where
+    pub normal : IsElement c
+    pub image : f.apply x ≡ meaning c
+
+  -- the list has the images of E(n), .., E(0)
+  abbrev Descends : (ℕ → A) → ℕ → List Element → Type 0
+  Descends E n [] = ⊥
+  Descends E zero (c ∷ cs) = IsImage c (E 0) × (cs ≡ [])
+  Descends E (suc n) (c ∷ cs) = IsImage c (E (suc n)) × Descends E n cs
+
+  -- the list begins with the images of P(0), .., P(n)
+  abbrev Ascends : (ℕ → A) → ℕ → List Element → Type 0
+  Ascends P n [] = ⊥
+  Ascends P zero (p ∷ ps) = IsImage p (P 0)
+  Ascends P (suc n) (p ∷ ps) = IsImage p (P 0) × Ascends (λ j. P (suc j)) n ps
+
+  negative-image : (c : Element) (x : A) → IsImage c x → IsImage (element.negative c) (F.neg x)
+  negative-image c x h = record {
+    normal = element_interprets.negative-valid c h.normal;
+    image = RingMaps.apply-neg f x ∙ ap mean.neg h.image ∙ sym (element_interprets.negative-means c h.normal);
+  }
+
+  -- ---- the sum
+  -- s is total + (±1)·f(a)
+  record IsSum (minus : Bool) (total s : Element) (a : A) : Type 0 where
+    normal : IsElement s
+    sum : meaning s ≡ mean.add (meaning total) (by_sign minus (f.apply a))
+
+  signed-product : (minus : Bool) (e p m : Element) (x y : A) → IsImage e x → IsImage p y → element.product (poly.signed element minus e) p ≡ Ok m → IsElement m × (meaning m ≡ by_sign minus (f.apply (F.mul x y)))
+  signed-product false e p m x y h k is =
+      (element_interprets.product-valid e p m h.normal k.normal is, element_interprets.product-means e p m h.normal k.normal is ∙ ap₂ mean.mul (sym h.image) (sym k.image) ∙ sym (f.apply-mul x y))
+  signed-product true e p m x y h k is =
+      let n = element_interprets.negative-valid e h.normal in
+      (element_interprets.product-valid (element.negative e) p m n k.normal is,
+      element_interprets.product-means (element.negative e) p m n k.normal is
+      ∙ ap₂ mean.mul (element_interprets.negative-means e h.normal ∙ ap mean.neg (sym h.image)) (sym k.image) ∙ Laws.neg-mul elements.ring (f.apply x) (f.apply y) ∙ ap mean.neg (sym (f.apply-mul x y)))
+
+  one-term : (minus : Bool) (total e p m s : Element) (x y : A) → IsElement total → IsImage e x → IsImage p y → element.product (poly.signed element minus e) p ≡ Ok m → element.sum total m ≡ Ok s
+      → IsSum minus total s (F.mul x y)
+  one-term minus total e p m s x y v h k is next =
+      let a = signed-product minus e p m x y h k is in
+      record {
+        normal = element_interprets.sum-valid total m s v a.0 next;
+        sum = element_interprets.sum-means total m s v a.0 next ∙ ap (mean.add (meaning total)) a.1;
+      }
+
+  two-terms : (minus : Bool) (total b s : Element) (x y : A) → IsSum minus total b x → IsSum (not minus) b s y → IsSum minus total s (F.add x (F.neg y))
+  two-terms false total b s x y h k = record {
+    normal = k.normal;
+    sum = k.sum ∙ ap (λ (z : mean.Element). mean.add z (mean.neg (f.apply y))) h.sum ∙ elements.add_assoc (meaning total) (f.apply x) (mean.neg (f.apply y))
+        ∙ ap (mean.add (meaning total)) (ap (mean.add (f.apply x)) (sym (RingMaps.apply-neg f y)) ∙ sym (f.apply-add x (F.neg y)));
+  }
+  two-terms true total b s x y h k = record {
+    normal = k.normal;
+    sum = k.sum ∙ ap (λ (z : mean.Element). mean.add z (f.apply y)) h.sum ∙ moved (meaning total) (f.apply x) (f.apply y)
+        ∙ ap (λ (z : mean.Element). mean.add (meaning total) (mean.neg z)) (ap (mean.add (f.apply x)) (sym (RingMaps.apply-neg f y)) ∙ sym (f.apply-add x (F.neg y)));
+  }
+    where
+      moved : (t x y : mean.Element) → mean.add (mean.add t (mean.neg x)) y ≡ mean.add t (mean.neg (mean.add x (mean.neg y)))
+      moved t x y = ring elements.ring (t ∷ x ∷ y ∷ []) (search reading depth 30 fits 4000) refl
+
+  sum-is : (n : ℕ) (E P : ℕ → A) (minus : Bool) (total s : Element) (es ps : List Element) → Descends E n es → Ascends P n ps → IsElement total → alternating_sum minus total es ps ≡ Ok s
+      → IsSum minus total s (alternating F.ring E P n)
+  sum-is n E P minus total s [] ps h k v is = absurd h
+  sum-is n E P minus total s (e ∷ es) [] h k v is = absurd (none n k)
+    where
+      none : (n : ℕ) → Ascends P n [] → ⊥
+      none zero k = k
+      none (suc n) k = k
+  sum-is zero E P minus total s (e ∷ []) (p ∷ ps) h k v is =
+      let a = and_then-ok (element.product (poly.signed element minus e) p) (λ m. and_then (element.sum total m) (λ x. alternating_sum (not minus) x [] ps)) s is in
+      let b = and_then-ok (element.sum total a.value) (λ x. alternating_sum (not minus) x [] ps) s a.next in
+      let same : b.value ≡ s = let next : Ok b.value ≡ Ok s = b.next in cc in
+      subst (IsSum minus total s) (sym (alternating-zero F E P)) (one-term minus total e p a.value s (E 0) (P 0) v h.0 k a.is (b.is ∙ ap Ok same))
+  sum-is zero E P minus total s (e ∷ (d ∷ es)) (p ∷ ps) h k v is = absurd (let z = h.1 in cc)
+  sum-is (suc n) E P minus total s (e ∷ es) (p ∷ ps) h k v is =
+      let a = and_then-ok (element.product (poly.signed element minus e) p) (λ m. and_then (element.sum total m) (λ x. alternating_sum (not minus) x es ps)) s is in
+      let b = and_then-ok (element.sum total a.value) (λ x. alternating_sum (not minus) x es ps) s a.next in
+      let first = one-term minus total e p a.value b.value (E (suc n)) (P 0) v h.0 k.0 a.is b.is in
+      subst (IsSum minus total s) (sym (alternating-suc F E P n))
+      (two-terms minus total b.value s (F.mul (E (suc n)) (P 0)) (alternating F.ring E (λ j. P (suc j)) n) first
+      (sum-is n E (λ j. P (suc j)) (not minus) b.value s es ps h.1 k.1 first.normal b.next))
