@@ -39,7 +39,7 @@ use Rattle.risch_logarithm_link.proofs.StandingMembers.{AreAt, StandsForMember, 
 use Rattle.risch_logarithm_link.proofs.StandingSequences.{StandForMembers, Follow, remainders-follow}
 
 -- at most two coefficients stay without the zeros at the end
-trimmed-short : (p : List Element) → length (poly.trimmed element p) ≤ length p
+pub trimmed-short : (p : List Element) → length (poly.trimmed element p) ≤ length p
 trimmed-short [] = omega arith
 trimmed-short (c ∷ p) = let l = trimmed-short p in let k = leading-short c (poly.trimmed element p) in omega (arith, l, k)
   where

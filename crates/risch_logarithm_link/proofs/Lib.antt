@@ -8,3 +8,4 @@ pub mod StandingArguments
 pub mod StandingParts
 pub mod StandingLogarithms
 pub mod NewtonCoefficients
+pub mod CharacteristicPolynomials

@@ -42,11 +42,11 @@ use Rattle.risch_logarithm_rules.specs.Newton.{inverse_of, alternating_sum, next
 lowest-of : (i : ℕ) → 0 < i → i < 2 ^ 16 → IsLowest (fraction.quotient (pos 1) (pos i))
 lowest-of i some small = quotient-is_lowest (pos 1) (pos i) (λ e. let same : i ≡ 0 = cc in omega arith) (omega arith) (omega arith)
 
-inverse_of-is_element : (i : ℕ) → 0 < i → i < 2 ^ 16 → IsElement (inverse_of i)
+pub inverse_of-is_element : (i : ℕ) → 0 < i → i < 2 ^ 16 → IsElement (inverse_of i)
 inverse_of-is_element i some small = number-is_element (fraction.quotient (pos 1) (pos i)) (lowest-of i some small)
 
 -- (1/i)·i = 1
-inverse_of-mul : (i : ℕ) → 0 < i → i < 2 ^ 16 → mean.mul (meaning (inverse_of i)) (of_nat elements.ring i) ≡ mean.one
+pub inverse_of-mul : (i : ℕ) → 0 < i → i < 2 ^ 16 → mean.mul (meaning (inverse_of i)) (of_nat elements.ring i) ≡ mean.one
 inverse_of-mul i some small = by_value (fraction.quotient (pos 1) (pos i)) (lowest-of i some small) (quotient-value (pos 1) (pos i) (λ e. let same : i ≡ 0 = cc in omega arith)) (number-stands (fraction.quotient (pos 1) (pos i)))
   where
     by_value : (q : Fraction) → IsLowest q → q.num *ℤ pos i ≡ pos 1 *ℤ pos q.den → meaning (number 5 q) ≡ fraction_meaning q → mean.mul (meaning (number 5 q)) (of_nat elements.ring i) ≡ mean.one
@@ -141,7 +141,7 @@ module _ {A : Type 0} (F : Field A) where
 
 -- ---- the rule
 -- the sign of the terms
-parity : Bool → ℕ → Bool
+unfoldable pub parity : Bool → ℕ → Bool
 parity b zero = b
 parity b (suc n) = parity (not b) n
 
@@ -150,16 +150,16 @@ unfolding parity
 parity-not b zero = refl
 parity-not b (suc n) = parity-not (not b) n
 
-parity-suc : (b : Bool) (n : ℕ) → parity b (suc n) ≡ not (parity b n)
+pub parity-suc : (b : Bool) (n : ℕ) → parity b (suc n) ≡ not (parity b n)
 unfolding parity
 parity-suc b n = parity-not b n
 
-alternating-push : (b : Bool) (es : List Element) (x : Element) → rule.alternating b (es ++ x ∷ []) ≡ rule.alternating b es ++ poly.signed element (parity b (length es)) x ∷ []
+pub alternating-push : (b : Bool) (es : List Element) (x : Element) → rule.alternating b (es ++ x ∷ []) ≡ rule.alternating b es ++ poly.signed element (parity b (length es)) x ∷ []
 unfolding parity
 alternating-push b [] x = refl
 alternating-push b (e ∷ es) x = ap (λ (l : List Element). poly.signed element b e ∷ l) (alternating-push (not b) es x)
 
-abbrev by_sign : Bool → mean.Element → mean.Element
+abbrev pub by_sign : Bool → mean.Element → mean.Element
 by_sign false x = x
 by_sign true x = mean.neg x
 
@@ -170,18 +170,18 @@ module _ {A : Type 0} (F : Field A) (f : RingMap F.ring elements.ring) where
     pub image : f.apply x ≡ meaning c
 
   -- the list has the images of E(n), .., E(0)
-  abbrev Descends : (ℕ → A) → ℕ → List Element → Type 0
+  abbrev pub Descends : (ℕ → A) → ℕ → List Element → Type 0
   Descends E n [] = ⊥
   Descends E zero (c ∷ cs) = IsImage c (E 0) × (cs ≡ [])
   Descends E (suc n) (c ∷ cs) = IsImage c (E (suc n)) × Descends E n cs
 
   -- the list begins with the images of P(0), .., P(n)
-  abbrev Ascends : (ℕ → A) → ℕ → List Element → Type 0
+  abbrev pub Ascends : (ℕ → A) → ℕ → List Element → Type 0
   Ascends P n [] = ⊥
   Ascends P zero (p ∷ ps) = IsImage p (P 0)
   Ascends P (suc n) (p ∷ ps) = IsImage p (P 0) × Ascends (λ j. P (suc j)) n ps
 
-  negative-image : (c : Element) (x : A) → IsImage c x → IsImage (element.negative c) (F.neg x)
+  pub negative-image : (c : Element) (x : A) → IsImage c x → IsImage (element.negative c) (F.neg x)
   negative-image c x h = record {
     normal = element_interprets.negative-valid c h.normal;
     image = RingMaps.apply-neg f x ∙ ap mean.neg h.image ∙ sym (element_interprets.negative-means c h.normal);
@@ -189,9 +189,9 @@ module _ {A : Type 0} (F : Field A) (f : RingMap F.ring elements.ring) where
 
   -- ---- the sum
   -- s is total + (±1)·f(a)
-  record IsSum (minus : Bool) (total s : Element) (a : A) : Type 0 where
-    normal : IsElement s
-    sum : meaning s ≡ mean.add (meaning total) (by_sign minus (f.apply a))
+  pub record IsSum (minus : Bool) (total s : Element) (a : A) : Type 0 where
+    pub normal : IsElement s
+    pub sum : meaning s ≡ mean.add (meaning total) (by_sign minus (f.apply a))
 
   signed-product : (minus : Bool) (e p m : Element) (x y : A) → IsImage e x → IsImage p y → element.product (poly.signed element minus e) p ≡ Ok m → IsElement m × (meaning m ≡ by_sign minus (f.apply (F.mul x y)))
   signed-product false e p m x y h k is =
@@ -226,7 +226,7 @@ module _ {A : Type 0} (F : Field A) (f : RingMap F.ring elements.ring) where
       moved : (t x y : mean.Element) → mean.add (mean.add t (mean.neg x)) y ≡ mean.add t (mean.neg (mean.add x (mean.neg y)))
       moved t x y = ring elements.ring (t ∷ x ∷ y ∷ []) (search reading depth 30 fits 4000) refl
 
-  sum-is : (n : ℕ) (E P : ℕ → A) (minus : Bool) (total s : Element) (es ps : List Element) → Descends E n es → Ascends P n ps → IsElement total → alternating_sum minus total es ps ≡ Ok s
+  pub sum-is : (n : ℕ) (E P : ℕ → A) (minus : Bool) (total s : Element) (es ps : List Element) → Descends E n es → Ascends P n ps → IsElement total → alternating_sum minus total es ps ≡ Ok s
       → IsSum minus total s (alternating F.ring E P n)
   sum-is n E P minus total s [] ps h k v is = absurd h
   sum-is n E P minus total s (e ∷ es) [] h k v is = absurd (none n k)
