@@ -9,3 +9,4 @@ pub mod StandingParts
 pub mod StandingLogarithms
 pub mod NewtonCoefficients
 pub mod CharacteristicPolynomials
+pub mod NewtonPolynomials
