@@ -10,6 +10,7 @@ use Rattle.risch_ring.proofs.Solver.{ring}
 use Rattle.risch_univariate.specs.Polynomial.{Polynomial}
 use Rattle.risch_univariate.specs.PolynomialRing.{polynomials}
 use Rattle.risch_univariate.specs.Division.{Divides, IsCoprime}
+use Rattle.risch_univariate.proofs.Degree as Degree
 use Rattle.risch_univariate.proofs.Divides as Divides
 use Rattle.risch_residue_theory.specs.BivariatePolynomial.{coefficient_at, content as content_of}
 use Rattle.risch_residue_theory.proofs.PrimitiveParts as PrimitiveParts
@@ -27,7 +28,7 @@ use Rattle.risch_logarithm_link.proofs.PseudoRemainders.{leading-get, push-lengt
 use Rattle.risch_logarithm_link.proofs.StandingPolynomials as Standing
 use Rattle.risch_logarithm_link.proofs.StandingPolynomials.{StandsFor}
 use Rattle.risch_logarithm_link.proofs.StandingMembers.{AreAt, StandsForMember, content-stands, IsStandingContent, quotients-stand, quotients-length}
-use Rattle.risch_logarithm_link.proofs.StandingRemainders.{IsCongruent, congruent_of_stands, IsStandingInverse, stands-inverse, AreRemainders, remainders-stand, AreMultiples, multiples-stand}
+use Rattle.risch_logarithm_link.proofs.StandingRemainders.{IsCongruent, IsStandingInverse, stands-inverse, AreRemainders, remainders-stand, AreMultiples, multiples-stand}
 
 module _ {A : Type 0} (F : Field A) (f : RingMap F.ring elements.ring) where
   abbrev R : CommRing (Polynomial F)
@@ -121,17 +122,19 @@ module _ {A : Type 0} (F : Field A) (f : RingMap F.ring elements.ring) where
                     value = y.value;
                     stands = y.stands;
                     congruent = congruent_trans D (R.mul v.inverse (q j)) (R.mul v.inverse (h j).value) y.value (congruent_mul D v.inverse (q j) (h j).value (h j).congruent) y.congruent;
+                    smaller = y.smaller;
                   })
               by_place j (no n) (yes o) =
                   let here : j ≡ i = omega (arith, n, o) in
                   subst (λ j. IsCongruent F f (get_or (front ++ (element.one ∷ []) ∷ []) j []) (R.mul v.inverse (q j)) D) (sym here)
                   (subst (λ z. IsCongruent F f z (R.mul v.inverse (q i)) D) (sym (ap (λ j. get_or (front ++ (element.one ∷ []) ∷ []) j []) (sym short) ∙ push-last front (element.one ∷ [])))
-                  (record { value = R.one; stands = stands-one; congruent = equation }))
+                  (record { value = R.one; stands = stands-one; congruent = equation; smaller = let o = Degree.size-one F in let s = Standing.stands-size F f d D k in omega (arith, o, s, large) }))
               by_place j (no n) (no o) =
                   subst (λ z. IsCongruent F f z (R.mul v.inverse (q j)) D) (sym (get_or_past (front ++ (element.one ∷ []) ∷ []) j [] (let a = push-length front (element.one ∷ []) in omega (arith, a, short, o)))) (record {
                     value = R.zero;
                     stands = Standing.stands-zero F f;
                     congruent = subst (λ z. Divides F D (sub R (R.mul v.inverse (q j)) z)) beyond (congruent_mul D v.inverse (q j) (h j).value (h j).congruent);
+                    smaller = let o = Degree.size-zero F in let s = Standing.stands-size F f d D k in omega (arith, o, s, large);
                   })
                 where
                   beyond : (polynomials F).mul v.inverse (h j).value ≡ (polynomials F).zero

@@ -54,6 +54,7 @@ module _ {A : Type 0} (F : Field A) (f : RingMap F.ring elements.ring) where
     pub modulus_stands : StandsFor F f modulus r.modulus
     pub argument : Member
     pub argument_stands : StandsForArgument F f argument r.argument
+    pub small : (j : ℕ) → size F (coefficient_at F r.argument j) < size F r.modulus
     pub is_made : logarithm level modulus argument ≡ Ok l
 
   abbrev pub AreMadeOf : ℕ → List LogPart → List (RuleLogarithm F) → Type 0
@@ -86,13 +87,13 @@ module _ {A : Type 0} (F : Field A) (f : RingMap F.ring elements.ring) where
 
   -- one more logarithm, of the part Q
   one_more : (level : ℕ) (d : Polynomial F) (n : ℕ) (b : List (Polynomial F)) (ms : List (List (Polynomial F))) (i : ℕ) (q : InZ) (Q : Polynomial F) (Qs : List (Polynomial F)) (logs result : List LogPart)
-      (S : Member) (argument : List (Polynomial F)) (l : LogPart) → StandsFor F f q Q → ¬ (Q ≡ (polynomials F).one) → StandsForArgument F f S argument → IsRuleArgument F d n b ms i Q argument
+      (S : Member) (argument : List (Polynomial F)) (l : LogPart) → StandsFor F f q Q → ¬ (Q ≡ (polynomials F).one) → StandsForArgument F f S argument → ((j : ℕ) → size F (coefficient_at F argument j) < size F Q) → IsRuleArgument F d n b ms i Q argument
       → logarithm level q S ≡ Ok l → HaveLogarithms level d n b ms (suc i) Qs (logs ++ l ∷ []) result → HaveLogarithms level d n b ms i (Q ∷ Qs) logs result
-  one_more level d n b ms i q Q Qs logs result S argument l u other v w is h = record {
+  one_more level d n b ms i q Q Qs logs result S argument l u other v small w is h = record {
     made = l ∷ h.made;
     rs = record { modulus = Q; argument = argument } ∷ h.rs;
     all = h.all ∙ append_assoc logs (l ∷ []) h.made;
-    are_made = (record { modulus = q; modulus_stands = u; argument = S; argument_stands = v; is_made = is }, h.are_made);
+    are_made = (record { modulus = q; modulus_stands = u; argument = S; argument_stands = v; small = small; is_made = is }, h.are_made);
     are_logarithms = inr ((other, (refl, w)), h.are_logarithms);
   }
 
@@ -103,6 +104,10 @@ module _ {A : Type 0} (F : Field A) (f : RingMap F.ring elements.ring) where
     pub stands : StandsForArgument F f S argument
     pub same_size : size F d ≡ suc i
     pub equation : (j : ℕ) → coefficient_at F argument j ≡ constant F (coefficient F d j)
+
+  denominator-small : (d : Polynomial F) (i : ℕ) (S : Member) (h : HasDenominator d i S) (q : InZ) (Q : Polynomial F) → StandsFor F f q Q → 2 ≤ length q → (j : ℕ) → size F (coefficient_at F h.argument j) < size F Q
+  denominator-small d i S h q Q u large j =
+      let e = ap (size F) (h.equation j) in let l = Degree.size-constant-le F (coefficient F d j) in let s = Standing.stands-size F f q Q u in omega (arith, e, l, s, large)
 
   denominator-of : (p : List Element) (d : Polynomial F) (i : ℕ) → StandsFor F f p d → suc i ≡ length p → HasDenominator d i (map constant_in_z p)
   denominator-of p d i h long = record {
@@ -185,6 +190,7 @@ module _ {A : Type 0} (F : Field A) (f : RingMap F.ring elements.ring) (D : Deri
   record HasArgument (n : ℕ) (b : List (Polynomial F)) (ms : List (List (Polynomial F))) (i : ℕ) (Q : Polynomial F) (S : Member) : Type 0 where
     argument : List (Polynomial F)
     stands : StandsForArgument F f S argument
+    small : (j : ℕ) → size F (coefficient_at F argument j) < size F Q
     is_argument : IsRuleArgument F d n b ms i Q argument
 
   argument-with : (least i : ℕ) (members : List Member) (q : InZ) (Q : Polynomial F) (found : Member × Option (List Member))
@@ -201,13 +207,13 @@ module _ {A : Type 0} (F : Field A) (f : RingMap F.ring elements.ring) (D : Deri
           let same : (map constant_in_z denominator, Some members) ≡ found = cc in
           let k = denominator-of F f denominator d i stands_d (eqb-true (suc i) (length denominator) t) in
           subst (λ (x : Member × Option (List Member)). HasArgument (suc least) s.b s.ms i Q x.0 × (x.1 ≡ Some members)) same
-          (record { argument = k.argument; stands = k.stands; is_argument = denominator-is_argument F f d i (map constant_in_z denominator) k (suc least) s.b s.ms Q }, refl)
+          (record { argument = k.argument; stands = k.stands; small = denominator-small F f d i (map constant_in_z denominator) k q Q u large; is_argument = denominator-is_argument F f d i (map constant_in_z denominator) k (suc least) s.b s.ms Q }, refl)
       by_test false t is =
           let x = and_then-ok (argument_of (member_of_degree i members) q) (λ S. Ok (S, Some members)) found is in
           let same : (x.value, Some members) ≡ found = let next : Ok (x.value, Some members) ≡ Ok found = x.next in cc in
           let k = member-argument least i members q Q x.value s low u large part t x.is in
           subst (λ (x : Member × Option (List Member)). HasArgument (suc least) s.b s.ms i Q x.0 × (x.1 ≡ Some members)) same
-          (record { argument = k.argument; stands = k.stands; is_argument = inr k.is_part }, refl)
+          (record { argument = k.argument; stands = k.stands; small = k.small; is_argument = inr k.is_part }, refl)
 
   with_members : (least i : ℕ) (members : List Member) (qs : List InZ) (Qs : List (Polynomial F)) (logs result : List LogPart)
       → (s : IsStandingSequence F f (suc least) denominator d a (PolynomialDerivation.derive_polynomial F D w d) members) → least ≤ i → StandForParts F f qs Qs → Among i Qs
@@ -236,7 +242,7 @@ module _ {A : Type 0} (F : Field A) (f : RingMap F.ring elements.ring) (D : Deri
           (λ found. and_then (logarithm level q found.0) (λ l. logarithms_from tower level numerator denominator (suc i) found.1 (logs ++ l ∷ []) qs)) result is in
           let y = and_then-ok (logarithm level q x.value.0) (λ l. logarithms_from tower level numerator denominator (suc i) x.value.1 (logs ++ l ∷ []) qs) result x.next in
           let k = argument-with least i members q Q x.value s low h.0 large part x.is in
-          one_more F f level d (suc least) s.b s.ms i q Q Qs logs result x.value.0 k.0.argument y.value h.0 (part-not_one F f q Q h.0 large) k.0.stands k.0.is_argument y.is
+          one_more F f level d (suc least) s.b s.ms i q Q Qs logs result x.value.0 k.0.argument y.value h.0 (part-not_one F f q Q h.0 large) k.0.stands k.0.small k.0.is_argument y.is
           (again (logs ++ y.value ∷ []) (subst (λ m. logarithms_from tower level numerator denominator (suc i) m (logs ++ y.value ∷ []) qs ≡ Ok result) k.1 y.next))
 
   -- ---- from the first part on
@@ -304,6 +310,7 @@ module _ {A : Type 0} (F : Field A) (f : RingMap F.ring elements.ring) (D : Deri
             ms = y.ms;
             is_sequence = y.is_sequence;
             have = one_more F f level d y.n y.b y.ms i q Q Qs logs result (map constant_in_z denominator) k.argument l u (part-not_one F f q Q u large) k.stands
+                (denominator-small F f d i (map constant_in_z denominator) k q Q u large)
                 (denominator-is_argument F f d i (map constant_in_z denominator) k y.n y.b y.ms Q)
                 (subst (λ (x : Member × Option (List Member)). logarithm level q x.0 ≡ Ok l) same made) y.have;
           }
@@ -319,7 +326,7 @@ module _ {A : Type 0} (F : Field A) (f : RingMap F.ring elements.ring) (D : Deri
             b = s.b;
             ms = s.ms;
             is_sequence = s.is_sequence;
-            have = one_more F f level d (suc i) s.b s.ms i q Q Qs logs result y.value k.argument l u (part-not_one F f q Q u large) k.stands (inr k.is_part)
+            have = one_more F f level d (suc i) s.b s.ms i q Q Qs logs result y.value k.argument l u (part-not_one F f q Q u large) k.stands k.small (inr k.is_part)
                 (subst (λ (x : Member × Option (List Member)). logarithm level q x.0 ≡ Ok l) same made)
                 (with_members i (suc i) x.value qs Qs (logs ++ l ∷ []) result s (omega arith) h among
                 (subst (λ (x : Member × Option (List Member)). logarithms_from tower level numerator denominator (suc i) x.1 (logs ++ l ∷ []) qs ≡ Ok result) same rest));

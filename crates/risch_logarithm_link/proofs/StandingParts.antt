@@ -97,6 +97,7 @@ module _ {A : Type 0} (F : Field A) (f : RingMap F.ring elements.ring) where
   pub record HasMonicPart (d : Polynomial F) (n : ℕ) (b : List (Polynomial F)) (ms : List (List (Polynomial F))) (i : ℕ) (D : Polynomial F) (S : Member) : Type 0 where
     pub argument : List (Polynomial F)
     pub stands : StandsForArgument S argument
+    pub small : (j : ℕ) → size F (coefficient_at F argument j) < size F D
     pub is_part : IsMonicPart F d n b ms i D argument
 
   pub monic_part-of : (d : Polynomial F) (n : ℕ) (b : List (Polynomial F)) (ms : List (List (Polynomial F))) (i : ℕ) (D : Polynomial F) (m S : Member) → ¬ (size F d ≡ suc i) → n ≤ suc i
@@ -104,6 +105,7 @@ module _ {A : Type 0} (F : Field A) (f : RingMap F.ring elements.ring) where
   monic_part-of d n b ms i D m S other wanted h t = record {
     argument = argument;
     stands = record { are = stand; same_length = values_of-length F f S values };
+    small = λ j. subst (λ z. size F z < size F D) (Standing.stands_unique F f (get_or S j []) (t.each j).value (coefficient_at F argument j) (t.each j).stands (stand j)) (t.each j).smaller;
     is_part = record {
       other_size = other;
       wanted = wanted;

@@ -12,6 +12,7 @@ use Rattle.risch_univariate.specs.Polynomial.{Polynomial}
 use Rattle.risch_univariate.specs.PolynomialRing.{polynomials}
 use Rattle.risch_univariate.specs.Degree.{size}
 use Rattle.risch_univariate.specs.Division.{IsDivision, Divides, IsCoprime}
+use Rattle.risch_univariate.proofs.Degree as Degree
 use Rattle.risch_univariate.proofs.Divides as Divides
 use Rattle.risch_univariate.proofs.Division as Division
 use Rattle.risch_univariate.proofs.Gcd as Gcd
@@ -49,9 +50,18 @@ module _ {A : Type 0} (F : Field A) (f : RingMap F.ring elements.ring) where
     pub value : Polynomial F
     pub stands : StandsFor F f r value
     pub congruent : Divides F D (sub (polynomials F) P value)
+    pub smaller : size F value < size F D
 
-  pub congruent_of_stands : (r : InZ) (P D : Polynomial F) → StandsFor F f r P → IsCongruent r P D
-  congruent_of_stands r P D h = record { value = P; stands = h; congruent = subst (Divides F D) (sym (R.add-neg P)) (Divides.divides-zero F D) }
+  zero-congruent : (P D : Polynomial F) → 0 < size F D → P ≡ (polynomials F).zero → IsCongruent [] P D
+  zero-congruent P D some e = record {
+    value = R.zero;
+    stands = Standing.stands-zero F f;
+    congruent = subst (λ z. Divides F D (sub R z R.zero)) (sym e) (subst (Divides F D) (sym (R.add-neg R.zero)) (Divides.divides-zero F D));
+    smaller = let z = Degree.size-zero F in omega (arith, z, some);
+  }
+
+  modulus-some : (d : InZ) (D : Polynomial F) → StandsFor F f d D → 0 < length d → 0 < size F D
+  modulus-some d D k some = let s = Standing.stands-size F f d D k in omega (arith, s, some)
 
   -- ---- the remainder
   pub stands-remainder : (p d r : InZ) (P D : Polynomial F) → StandsFor F f p P → StandsFor F f d D → 0 < length d → remainder p d ≡ Ok r → IsCongruent r P D
@@ -79,6 +89,7 @@ module _ {A : Type 0} (F : Field A) (f : RingMap F.ring elements.ring) where
           }) (Polynomials.division-stands p d a r h.kept k.kept some is)).1;
         };
         congruent = subst (λ z. Divides F D (sub R z s.remainder)) (sym s.is_division.equation) (subst (Divides F D) (sym (cancelled (R.mul s.quotient D) s.remainder)) (Divides.divides-mul F s.quotient D));
+        smaller = s.is_division.smaller;
       }
         where
           cancelled : (x y : Polynomial F) → sub (polynomials F) ((polynomials F).add x y) y ≡ x
@@ -157,12 +168,12 @@ module _ {A : Type 0} (F : Field A) (f : RingMap F.ring elements.ring) where
     first : (i : ℕ) → i < length formed → get_or r i [] ≡ get_or formed i []
     each : (i : ℕ) (P : Polynomial F) → StandsFor F f (get_or m i []) P → IsCongruent (get_or r (length formed + i) []) ((polynomials F).mul X P) D
 
-  none-congruent : (formed : Member) (X D : Polynomial F) → AreCongruent formed X D [] formed
-  none-congruent formed X D = record {
+  none-congruent : (formed : Member) (X D : Polynomial F) → 0 < size F D → AreCongruent formed X D [] formed
+  none-congruent formed X D some = record {
     long = omega arith;
     first = λ i l. refl;
     each = λ i P u. subst (λ z. IsCongruent z (R.mul X P) D) (sym (get_or_past formed (length formed + i) [] (omega arith)))
-        (congruent_of_stands [] (R.mul X P) D (subst (StandsFor F f []) (sym (ap (R.mul X) (Standing.stands-zero_is F f P u) ∙ Laws.mul-zero R X)) (Standing.stands-zero F f)));
+        (zero-congruent (R.mul X P) D some (ap (R.mul X) (Standing.stands-zero_is F f P u) ∙ Laws.mul-zero R X));
   }
 
   one_more-congruent : (formed : Member) (X D : Polynomial F) (p q : InZ) (m r : Member) → ((P : Polynomial F) → StandsFor F f p P → IsCongruent q ((polynomials F).mul X P) D)
@@ -180,14 +191,14 @@ module _ {A : Type 0} (F : Field A) (f : RingMap F.ring elements.ring) where
       each_of (suc i) P u = subst (λ k. IsCongruent (get_or r k []) (R.mul X P) D) (omega (arith, push-length formed q)) (g.each i P u)
 
   remainders-congruent : (m formed r : Member) (d : InZ) (D : Polynomial F) → StandsFor F f d D → 0 < length d → remainders_onto formed m d ≡ Ok r → AreCongruent formed (polynomials F).one D m r
-  remainders-congruent [] formed r d D k some e = let same : formed ≡ r = cc in subst (AreCongruent formed R.one D []) same (none-congruent formed R.one D)
+  remainders-congruent [] formed r d D k some e = let same : formed ≡ r = cc in subst (AreCongruent formed R.one D []) same (none-congruent formed R.one D (modulus-some d D k some))
   remainders-congruent (p ∷ m) formed r d D k some e =
       let s = and_then-ok (remainder p d) (λ q. remainders_onto (formed ++ q ∷ []) m d) r e in
       one_more-congruent formed R.one D p s.value m r (λ P u. subst (λ z. IsCongruent s.value z D) (sym (Laws.one-mul R P)) (stands-remainder p d s.value P D u k some s.is))
       (remainders-congruent m (formed ++ s.value ∷ []) r d D k some s.next)
 
   multiples-congruent : (m formed r : Member) (i d : InZ) (I D : Polynomial F) → StandsFor F f i I → StandsFor F f d D → 0 < length d → multiples_onto formed m i d ≡ Ok r → AreCongruent formed I D m r
-  multiples-congruent [] formed r i d I D h k some e = let same : formed ≡ r = cc in subst (AreCongruent formed I D []) same (none-congruent formed I D)
+  multiples-congruent [] formed r i d I D h k some e = let same : formed ≡ r = cc in subst (AreCongruent formed I D []) same (none-congruent formed I D (modulus-some d D k some))
   multiples-congruent (p ∷ m) formed r i d I D h k some e =
       let s = and_then-ok (poly.product element p i) (λ q. and_then (remainder q d) (λ x. multiples_onto (formed ++ x ∷ []) m i d)) r e in
       let t = and_then-ok (remainder s.value d) (λ x. multiples_onto (formed ++ x ∷ []) m i d) r s.next in
