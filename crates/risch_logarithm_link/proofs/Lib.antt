@@ -10,3 +10,5 @@ pub mod StandingLogarithms
 pub mod NewtonCoefficients
 pub mod CharacteristicPolynomials
 pub mod NewtonPolynomials
+pub mod NewtonRules
+pub mod ResidueSetting

@@ -1,5 +1,4 @@
 pub mod ArgumentSteps
 pub mod LogarithmSteps
 pub mod MemberSteps
-pub mod NewtonRules
 pub mod NewtonSteps

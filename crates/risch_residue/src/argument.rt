@@ -104,7 +104,7 @@ fn monic_by(
 /// m divided by its content, each coefficient then modulo R, and monic there.
 ///
 /// Stops: that of the first value that cannot be formed.
-#[tactic(auto, using(risch_field::proofs::CheckedSteps::stop_passes, risch_field::proofs::CheckedSteps::value_passes), unfolding(crate::specs::Logarithms::argument_of))]
+#[tactic(auto, using(risch_field::proofs::CheckedSteps::stop_passes, risch_field::proofs::CheckedSteps::value_passes), unfolding(risch_logarithm_rules::specs::Logarithms::argument_of))]
 pub(crate) fn argument_of(alloc: Global, of: &[Inner], modulus: &Inner) -> Result<Member, Fail>
     ensures { Agrees result (spec.argument_of of.now modulus.now) }
 {

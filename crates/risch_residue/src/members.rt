@@ -85,7 +85,7 @@ fn differences(alloc: Global, left: &[Elem], right: &[Elem]) -> Result<Member, F
 /// The primitive remainder sequence of d and a - z·Dd, down to the degree `least` in t.
 ///
 /// Stops: those of Dd; Size where a - z·Dd is beyond the limit; those of the sequence.
-#[tactic(auto, using(risch_field::proofs::CheckedSteps::stop_passes, risch_field::proofs::CheckedSteps::value_passes), unfolding(crate::specs::Logarithms::sequence))]
+#[tactic(auto, using(risch_field::proofs::CheckedSteps::stop_passes, risch_field::proofs::CheckedSteps::value_passes), unfolding(risch_logarithm_rules::specs::Logarithms::sequence))]
 pub(crate) fn sequence(
     alloc: Global,
     tower: &Tower,
