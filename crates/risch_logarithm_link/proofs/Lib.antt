@@ -12,3 +12,4 @@ pub mod CharacteristicPolynomials
 pub mod NewtonPolynomials
 pub mod NewtonRules
 pub mod ResidueSetting
+pub mod ResidueLogarithms

@@ -47,7 +47,7 @@ use Rattle.risch_monomial.proofs.LowestTerms.{denominator-monic}
 use Rattle.risch_sub.specs.PowerTracesMeaning.{ArePowerTraces}
 use Rattle.risch_sub.specs.SquareFree.{square_free_parts}
 use Rattle.risch_sub.specs.SquareFreeMeaning.{AreSquareFreeParts}
-use Rattle.risch_sub.proofs.SquareFreeRules.{square_free_parts-mean}
+use Rattle.risch_sub.proofs.SquareFreeRules.{square_free_parts-mean, square_free_parts-within}
 use Rattle.risch_logarithm_theory.specs.FieldBelow.{below, included_polynomial, lift, lift_all, derivative_with, derivation_below, variable_derivative, eta_below}
 use Rattle.risch_logarithm_theory.proofs.FieldBelow as Below
 use Rattle.risch_logarithm_theory.proofs.MappedPolynomials as Mapped
@@ -68,10 +68,13 @@ over_all level [] kept within = tt
 over_all level (p ∷ ps) kept within =
     (Over-polynomial level p (All-head IsPolynomial p ps kept) (All-head (AllWithin level) p ps within), over_all level ps (All-tail IsPolynomial p ps kept) (All-tail (AllWithin level) p ps within))
 
-pub lift_all-stand : (level : ℕ) (ps : List (List Element)) (kept : All IsPolynomial ps) (over : Each (Over level) (map polynomial ps)) → StandForParts (below level) (inclusion level) ps (lift_all level (map polynomial ps) over)
-lift_all-stand level [] kept over = tt
-lift_all-stand level (p ∷ ps) kept over =
-    (record { kept = All-head IsPolynomial p ps kept; image = Below.included-lift level (polynomial p) over.0 }, lift_all-stand level ps (All-tail IsPolynomial p ps kept) over.1)
+pub lift_all-stand : (level : ℕ) (ps : List (List Element)) (kept : All IsPolynomial ps) (rational : All (AllWithin 0) ps) (over : Each (Over level) (map polynomial ps))
+    → StandForParts (below level) (inclusion level) ps (lift_all level (map polynomial ps) over)
+lift_all-stand level [] kept rational over = tt
+lift_all-stand level (p ∷ ps) kept rational over = (
+  (record { kept = All-head IsPolynomial p ps kept; image = Below.included-lift level (polynomial p) over.0 }, All-head (AllWithin 0) p ps rational),
+  lift_all-stand level ps (All-tail IsPolynomial p ps kept) (All-tail (AllWithin 0) p ps rational) over.1,
+)
 
 -- a polynomial over the fractions has constant coefficients
 pub rational-constant : (tower : Tower) (p : List Element) → IsPolynomial p → AllWithin 0 p → coefficientwise elements (derivation_in tower) (polynomial p) ≡ (polynomials elements).zero
@@ -229,7 +232,7 @@ module _ (tower : List Level) (level : ℕ) (h : Element) (s : IsSetting tower l
                     (Below.included-coefficientwise tower level s.is_level c.polynomial_of ∙ ap (coefficientwise elements (derivation_in (monomials tower))) c.stands.image
                     ∙ rational-constant (monomials tower) C c.stands.kept (characteristic_polynomial-within 0 traces C rational is_C));
                 parts_below = lift_all level (map polynomial parts) over;
-                stand = lift_all-stand level parts k.kept over;
+                stand = lift_all-stand level parts k.kept (square_free_parts-within 0 C parts (characteristic_polynomial-within 0 traces C rational is_C) is_parts) over;
                 product = Mapped.map-injective (below level) elements (inclusion level) c.polynomial_of (product_of_powers (below level) 1 (lift_all level (map polynomial parts) over))
                     (c.stands.image ∙ k.product
                     ∙ sym (Mapped.product_of_powers-map (below level) elements (inclusion level) 1 (lift_all level (map polynomial parts) over) ∙ ap (product_of_powers elements 1) (Below.included-lift_all level (map polynomial parts) over)));

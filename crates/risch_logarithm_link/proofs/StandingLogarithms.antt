@@ -28,6 +28,7 @@ use Rattle.risch_field.proofs.CheckedSteps.{and_then-ok}
 use Rattle.risch_polynomial.specs.Poly as poly
 use Rattle.risch_level.specs.Levels.{Element, element}
 use Rattle.risch_derivation.specs.Derivation.{derive_polynomial}
+use Rattle.risch_element_theory.specs.WholeTower.{AllWithin}
 use Rattle.risch_tower.specs.declared.level.Level.{Level}
 use Rattle.risch_tower.specs.Tower.{derivative, rate_at}
 use Rattle.risch_rootsum.specs.declared.integral.LogPart.{LogPart}
@@ -41,17 +42,18 @@ use Rattle.risch_logarithm_link.proofs.StandingArguments.{argument-stands}
 use Rattle.risch_logarithm_link.proofs.StandingParts.{part-is_one, part-long, part-not_one, HasMember, found-member, StandsForArgument, HasMonicPart, monic_part-of}
 
 module _ {A : Type 0} (F : Field A) (f : RingMap F.ring elements.ring) where
-  -- the lists stand for the parts, one by one
+  -- the lists stand for the parts, one by one, and their coefficients are fractions
   abbrev pub StandForParts : List InZ → List (Polynomial F) → Type 0
   StandForParts [] [] = Unit
   StandForParts [] (Q ∷ Qs) = ⊥
   StandForParts (q ∷ qs) [] = ⊥
-  StandForParts (q ∷ qs) (Q ∷ Qs) = StandsFor F f q Q × StandForParts qs Qs
+  StandForParts (q ∷ qs) (Q ∷ Qs) = (StandsFor F f q Q × AllWithin 0 q) × StandForParts qs Qs
 
   -- l is what the rule makes of lists for R and S
   pub record IsMadeOf (level : ℕ) (l : LogPart) (r : RuleLogarithm F) : Type 0 where
     pub modulus : InZ
     pub modulus_stands : StandsFor F f modulus r.modulus
+    pub rational : AllWithin 0 modulus
     pub argument : Member
     pub argument_stands : StandsForArgument F f argument r.argument
     pub small : (j : ℕ) → size F (coefficient_at F r.argument j) < size F r.modulus
@@ -87,13 +89,13 @@ module _ {A : Type 0} (F : Field A) (f : RingMap F.ring elements.ring) where
 
   -- one more logarithm, of the part Q
   one_more : (level : ℕ) (d : Polynomial F) (n : ℕ) (b : List (Polynomial F)) (ms : List (List (Polynomial F))) (i : ℕ) (q : InZ) (Q : Polynomial F) (Qs : List (Polynomial F)) (logs result : List LogPart)
-      (S : Member) (argument : List (Polynomial F)) (l : LogPart) → StandsFor F f q Q → ¬ (Q ≡ (polynomials F).one) → StandsForArgument F f S argument → ((j : ℕ) → size F (coefficient_at F argument j) < size F Q) → IsRuleArgument F d n b ms i Q argument
+      (S : Member) (argument : List (Polynomial F)) (l : LogPart) → StandsFor F f q Q → AllWithin 0 q → ¬ (Q ≡ (polynomials F).one) → StandsForArgument F f S argument → ((j : ℕ) → size F (coefficient_at F argument j) < size F Q) → IsRuleArgument F d n b ms i Q argument
       → logarithm level q S ≡ Ok l → HaveLogarithms level d n b ms (suc i) Qs (logs ++ l ∷ []) result → HaveLogarithms level d n b ms i (Q ∷ Qs) logs result
-  one_more level d n b ms i q Q Qs logs result S argument l u other v small w is h = record {
+  one_more level d n b ms i q Q Qs logs result S argument l u rational other v small w is h = record {
     made = l ∷ h.made;
     rs = record { modulus = Q; argument = argument } ∷ h.rs;
     all = h.all ∙ append_assoc logs (l ∷ []) h.made;
-    are_made = (record { modulus = q; modulus_stands = u; argument = S; argument_stands = v; small = small; is_made = is }, h.are_made);
+    are_made = (record { modulus = q; modulus_stands = u; rational = rational; argument = S; argument_stands = v; small = small; is_made = is }, h.are_made);
     are_logarithms = inr ((other, (refl, w)), h.are_logarithms);
   }
 
@@ -235,14 +237,14 @@ module _ {A : Type 0} (F : Field A) (f : RingMap F.ring elements.ring) (D : Deri
           and_then (argument_for tower level numerator denominator (Some members) i q) (λ found. and_then (logarithm level q found.0) (λ l. logarithms_from tower level numerator denominator (suc i) found.1 (logs ++ l ∷ []) qs))) ≡ Ok result
           → ((logs : List LogPart) → logarithms_from tower level numerator denominator (suc i) (Some members) logs qs ≡ Ok result → HaveLogarithms F f level d (suc least) s.b s.ms (suc i) Qs logs result)
           → HaveLogarithms F f level d (suc least) s.b s.ms i (Q ∷ Qs) logs result
-      by_test true t is again = pass F f level d (suc least) s.b s.ms i Q Qs logs result (part-is_one F f q Q h.0 monic t) (again logs is)
+      by_test true t is again = pass F f level d (suc least) s.b s.ms i Q Qs logs result (part-is_one F f q Q h.0.0 monic t) (again logs is)
       by_test false t is again =
-          let large = part-long F f q Q h.0 monic t in
+          let large = part-long F f q Q h.0.0 monic t in
           let x = and_then-ok (argument_for tower level numerator denominator (Some members) i q)
           (λ found. and_then (logarithm level q found.0) (λ l. logarithms_from tower level numerator denominator (suc i) found.1 (logs ++ l ∷ []) qs)) result is in
           let y = and_then-ok (logarithm level q x.value.0) (λ l. logarithms_from tower level numerator denominator (suc i) x.value.1 (logs ++ l ∷ []) qs) result x.next in
-          let k = argument-with least i members q Q x.value s low h.0 large part x.is in
-          one_more F f level d (suc least) s.b s.ms i q Q Qs logs result x.value.0 k.0.argument y.value h.0 (part-not_one F f q Q h.0 large) k.0.stands k.0.small k.0.is_argument y.is
+          let k = argument-with least i members q Q x.value s low h.0.0 large part x.is in
+          one_more F f level d (suc least) s.b s.ms i q Q Qs logs result x.value.0 k.0.argument y.value h.0.0 h.0.1 (part-not_one F f q Q h.0.0 large) k.0.stands k.0.small k.0.is_argument y.is
           (again (logs ++ y.value ∷ []) (subst (λ m. logarithms_from tower level numerator denominator (suc i) m (logs ++ y.value ∷ []) qs ≡ Ok result) k.1 y.next))
 
   -- ---- from the first part on
@@ -289,12 +291,12 @@ module _ {A : Type 0} (F : Field A) (f : RingMap F.ring elements.ring) (D : Deri
 
   -- the argument of a part, where no member is formed before: d, or one made of the members that are formed
   with_sequence : (i : ℕ) (q : InZ) (Q : Polynomial F) (qs : List InZ) (Qs : List (Polynomial F)) (logs result : List LogPart) (found : Member × Option (List Member)) (l : LogPart)
-      → StandsFor F f q Q → 2 ≤ length q → IsPartOf F i Q 1 parts → StandForParts F f qs Qs → Among (suc i) Qs
+      → StandsFor F f q Q → AllWithin 0 q → 2 ≤ length q → IsPartOf F i Q 1 parts → StandForParts F f qs Qs → Among (suc i) Qs
       → argument_for tower level numerator denominator None i q ≡ Ok found → logarithm level q found.0 ≡ Ok l
       → logarithms_from tower level numerator denominator (suc i) found.1 (logs ++ l ∷ []) qs ≡ Ok result
       → ((logs : List LogPart) → logarithms_from tower level numerator denominator (suc i) None logs qs ≡ Ok result → HaveSequence (suc i) Qs logs result) → HaveSequence i (Q ∷ Qs) logs result
   unfolding argument_for
-  with_sequence i q Q qs Qs logs result found l u large part h among is made rest again = by_test (nat_eq (suc i) (length denominator)) refl is
+  with_sequence i q Q qs Qs logs result found l u rational large part h among is made rest again = by_test (nat_eq (suc i) (length denominator)) refl is
     where
       by_test : (test : Bool) → nat_eq (suc i) (length denominator) ≡ test
           → (if test then Ok (map constant_in_z denominator, None) else and_then (sequence tower level numerator denominator i) (λ ms. and_then (argument_of (member_of_degree i ms) q) (λ S. Ok (S, Some ms)))) ≡ Ok found
@@ -309,7 +311,7 @@ module _ {A : Type 0} (F : Field A) (f : RingMap F.ring elements.ring) (D : Deri
             b = y.b;
             ms = y.ms;
             is_sequence = y.is_sequence;
-            have = one_more F f level d y.n y.b y.ms i q Q Qs logs result (map constant_in_z denominator) k.argument l u (part-not_one F f q Q u large) k.stands
+            have = one_more F f level d y.n y.b y.ms i q Q Qs logs result (map constant_in_z denominator) k.argument l u rational (part-not_one F f q Q u large) k.stands
                 (denominator-small F f d i (map constant_in_z denominator) k q Q u large)
                 (denominator-is_argument F f d i (map constant_in_z denominator) k y.n y.b y.ms Q)
                 (subst (λ (x : Member × Option (List Member)). logarithm level q x.0 ≡ Ok l) same made) y.have;
@@ -326,7 +328,7 @@ module _ {A : Type 0} (F : Field A) (f : RingMap F.ring elements.ring) (D : Deri
             b = s.b;
             ms = s.ms;
             is_sequence = s.is_sequence;
-            have = one_more F f level d (suc i) s.b s.ms i q Q Qs logs result y.value k.argument l u (part-not_one F f q Q u large) k.stands k.small (inr k.is_part)
+            have = one_more F f level d (suc i) s.b s.ms i q Q Qs logs result y.value k.argument l u rational (part-not_one F f q Q u large) k.stands k.small (inr k.is_part)
                 (subst (λ (x : Member × Option (List Member)). logarithm level q x.0 ≡ Ok l) same made)
                 (with_members i (suc i) x.value qs Qs (logs ++ l ∷ []) result s (omega arith) h among
                 (subst (λ (x : Member × Option (List Member)). logarithms_from tower level numerator denominator (suc i) x.1 (logs ++ l ∷ []) qs ≡ Ok result) same rest));
@@ -352,10 +354,10 @@ module _ {A : Type 0} (F : Field A) (f : RingMap F.ring elements.ring) (D : Deri
           → ((logs : List LogPart) → logarithms_from tower level numerator denominator (suc i) None logs qs ≡ Ok result → HaveSequence (suc i) Qs logs result) → HaveSequence i (Q ∷ Qs) logs result
       by_test true t is again =
           let y = again logs is in
-          record { n = y.n; positive = y.positive; b = y.b; ms = y.ms; is_sequence = y.is_sequence; have = pass F f level d y.n y.b y.ms i Q Qs logs result (part-is_one F f q Q h.0 monic t) y.have }
+          record { n = y.n; positive = y.positive; b = y.b; ms = y.ms; is_sequence = y.is_sequence; have = pass F f level d y.n y.b y.ms i Q Qs logs result (part-is_one F f q Q h.0.0 monic t) y.have }
       by_test false t is again =
-          let large = part-long F f q Q h.0 monic t in
+          let large = part-long F f q Q h.0.0 monic t in
           let x = and_then-ok (argument_for tower level numerator denominator None i q)
           (λ found. and_then (logarithm level q found.0) (λ l. logarithms_from tower level numerator denominator (suc i) found.1 (logs ++ l ∷ []) qs)) result is in
           let y = and_then-ok (logarithm level q x.value.0) (λ l. logarithms_from tower level numerator denominator (suc i) x.value.1 (logs ++ l ∷ []) qs) result x.next in
-          with_sequence i q Q qs Qs logs result x.value y.value h.0 large part h.1 (λ k q x. among k q (inr x)) x.is y.is y.next again
+          with_sequence i q Q qs Qs logs result x.value y.value h.0.0 h.0.1 large part h.1 (λ k q x. among k q (inr x)) x.is y.is y.next again
