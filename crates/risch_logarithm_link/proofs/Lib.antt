@@ -13,3 +13,5 @@ pub mod NewtonPolynomials
 pub mod NewtonRules
 pub mod ResidueSetting
 pub mod ResidueLogarithms
+pub mod VariablesOccurring
+pub mod RationalModuli
