@@ -15,3 +15,4 @@ pub mod ResidueSetting
 pub mod ResidueLogarithms
 pub mod VariablesOccurring
 pub mod RationalModuli
+pub mod MadeLogarithms

@@ -54,6 +54,7 @@ module _ {A : Type 0} (F : Field A) (f : RingMap F.ring elements.ring) where
     pub modulus : InZ
     pub modulus_stands : StandsFor F f modulus r.modulus
     pub rational : AllWithin 0 modulus
+    pub large : 2 ≤ length modulus
     pub argument : Member
     pub argument_stands : StandsForArgument F f argument r.argument
     pub small : (j : ℕ) → size F (coefficient_at F r.argument j) < size F r.modulus
@@ -89,14 +90,14 @@ module _ {A : Type 0} (F : Field A) (f : RingMap F.ring elements.ring) where
 
   -- one more logarithm, of the part Q
   one_more : (level : ℕ) (d : Polynomial F) (n : ℕ) (b : List (Polynomial F)) (ms : List (List (Polynomial F))) (i : ℕ) (q : InZ) (Q : Polynomial F) (Qs : List (Polynomial F)) (logs result : List LogPart)
-      (S : Member) (argument : List (Polynomial F)) (l : LogPart) → StandsFor F f q Q → AllWithin 0 q → ¬ (Q ≡ (polynomials F).one) → StandsForArgument F f S argument → ((j : ℕ) → size F (coefficient_at F argument j) < size F Q) → IsRuleArgument F d n b ms i Q argument
+      (S : Member) (argument : List (Polynomial F)) (l : LogPart) → StandsFor F f q Q → AllWithin 0 q → 2 ≤ length q → StandsForArgument F f S argument → ((j : ℕ) → size F (coefficient_at F argument j) < size F Q) → IsRuleArgument F d n b ms i Q argument
       → logarithm level q S ≡ Ok l → HaveLogarithms level d n b ms (suc i) Qs (logs ++ l ∷ []) result → HaveLogarithms level d n b ms i (Q ∷ Qs) logs result
-  one_more level d n b ms i q Q Qs logs result S argument l u rational other v small w is h = record {
+  one_more level d n b ms i q Q Qs logs result S argument l u rational large v small w is h = record {
     made = l ∷ h.made;
     rs = record { modulus = Q; argument = argument } ∷ h.rs;
     all = h.all ∙ append_assoc logs (l ∷ []) h.made;
-    are_made = (record { modulus = q; modulus_stands = u; rational = rational; argument = S; argument_stands = v; small = small; is_made = is }, h.are_made);
-    are_logarithms = inr ((other, (refl, w)), h.are_logarithms);
+    are_made = (record { modulus = q; modulus_stands = u; rational = rational; large = large; argument = S; argument_stands = v; small = small; is_made = is }, h.are_made);
+    are_logarithms = inr ((part-not_one F f q Q u large, (refl, w)), h.are_logarithms);
   }
 
   -- ---- the argument d
@@ -244,7 +245,7 @@ module _ {A : Type 0} (F : Field A) (f : RingMap F.ring elements.ring) (D : Deri
           (λ found. and_then (logarithm level q found.0) (λ l. logarithms_from tower level numerator denominator (suc i) found.1 (logs ++ l ∷ []) qs)) result is in
           let y = and_then-ok (logarithm level q x.value.0) (λ l. logarithms_from tower level numerator denominator (suc i) x.value.1 (logs ++ l ∷ []) qs) result x.next in
           let k = argument-with least i members q Q x.value s low h.0.0 large part x.is in
-          one_more F f level d (suc least) s.b s.ms i q Q Qs logs result x.value.0 k.0.argument y.value h.0.0 h.0.1 (part-not_one F f q Q h.0.0 large) k.0.stands k.0.small k.0.is_argument y.is
+          one_more F f level d (suc least) s.b s.ms i q Q Qs logs result x.value.0 k.0.argument y.value h.0.0 h.0.1 large k.0.stands k.0.small k.0.is_argument y.is
           (again (logs ++ y.value ∷ []) (subst (λ m. logarithms_from tower level numerator denominator (suc i) m (logs ++ y.value ∷ []) qs ≡ Ok result) k.1 y.next))
 
   -- ---- from the first part on
@@ -311,7 +312,7 @@ module _ {A : Type 0} (F : Field A) (f : RingMap F.ring elements.ring) (D : Deri
             b = y.b;
             ms = y.ms;
             is_sequence = y.is_sequence;
-            have = one_more F f level d y.n y.b y.ms i q Q Qs logs result (map constant_in_z denominator) k.argument l u rational (part-not_one F f q Q u large) k.stands
+            have = one_more F f level d y.n y.b y.ms i q Q Qs logs result (map constant_in_z denominator) k.argument l u rational large k.stands
                 (denominator-small F f d i (map constant_in_z denominator) k q Q u large)
                 (denominator-is_argument F f d i (map constant_in_z denominator) k y.n y.b y.ms Q)
                 (subst (λ (x : Member × Option (List Member)). logarithm level q x.0 ≡ Ok l) same made) y.have;
@@ -328,7 +329,7 @@ module _ {A : Type 0} (F : Field A) (f : RingMap F.ring elements.ring) (D : Deri
             b = s.b;
             ms = s.ms;
             is_sequence = s.is_sequence;
-            have = one_more F f level d (suc i) s.b s.ms i q Q Qs logs result y.value k.argument l u rational (part-not_one F f q Q u large) k.stands k.small (inr k.is_part)
+            have = one_more F f level d (suc i) s.b s.ms i q Q Qs logs result y.value k.argument l u rational large k.stands k.small (inr k.is_part)
                 (subst (λ (x : Member × Option (List Member)). logarithm level q x.0 ≡ Ok l) same made)
                 (with_members i (suc i) x.value qs Qs (logs ++ l ∷ []) result s (omega arith) h among
                 (subst (λ (x : Member × Option (List Member)). logarithms_from tower level numerator denominator (suc i) x.1 (logs ++ l ∷ []) qs ≡ Ok result) same rest));
