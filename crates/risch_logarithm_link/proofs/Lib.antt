@@ -16,3 +16,4 @@ pub mod ResidueLogarithms
 pub mod VariablesOccurring
 pub mod RationalModuli
 pub mod MadeLogarithms
+pub mod ResidueDerivatives

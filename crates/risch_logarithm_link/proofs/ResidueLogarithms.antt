@@ -1,5 +1,5 @@
 -- The logarithms of the residues of h, as the rule forms them: the derivatives of the logarithms of the theory that they are made of add up to a/d, at an exponential to a/d + η·p_1.
-use Rattle.std.proofs.Common.{◌≡◌, refl, sym, ap, ◌∙◌, ℕ, zero, suc, ◌-◌, ◌≤◌, ◌<◌, List, [], ◌∷◌, ◌++◌, length, Option, None, Ok, arith, subst, inl, inr}
+use Rattle.std.proofs.Common.{◌≡◌, refl, sym, ap, ◌∙◌, ℕ, zero, suc, ◌-◌, ◌≤◌, ◌<◌, List, [], ◌∷◌, ◌++◌, length, get_or, Option, None, Ok, arith, subst, inl, inr}
 use Rattle.risch_ring.specs.CommRing.{CommRing, Field, Derivation, HasCharacteristicZero, sub, quotient}
 use Rattle.risch_ring.specs.Lists.{Each}
 use Rattle.risch_univariate.specs.Polynomial.{Polynomial, constant}
@@ -21,7 +21,7 @@ use Rattle.risch_mean.proofs.Subfield.{Subfield, inclusion}
 use Rattle.risch_field.specs.Checked.{and_then}
 use Rattle.risch_field.proofs.CheckedSteps.{and_then-ok}
 use Rattle.risch_polynomial_theory.specs.Meaning.{AllValid}
-use Rattle.risch_level.specs.Levels.{Element}
+use Rattle.risch_level.specs.Levels.{Element, element}
 use Rattle.risch_derivation.specs.declared.rate.Kind.{Kind}
 use Rattle.risch_derivation.specs.declared.rate.Kind.TheVariants.{Primitive, Exponential}
 use Rattle.risch_element_theory.specs.WholeTower.{IsElement, polynomial, AllWithin}
@@ -37,6 +37,7 @@ use Rattle.risch_logarithm_theory.specs.FieldBelow.{below, derivative_with, eta_
 use Rattle.risch_logarithm_theory.proofs.FieldBelow as Below
 use Rattle.risch_logarithm_rules.specs.Newton.{characteristic_polynomial}
 use Rattle.risch_logarithm_rules.specs.Logarithms.{logarithms_from, logarithms}
+use Rattle.risch_logarithm_link.proofs.NewtonCoefficients.{IsImage}
 use Rattle.risch_logarithm_link.proofs.ResidueSetting.{IsSetting, D, w, a, d, e, nonzero_d, monic_d, coprime_d, smaller_a, small_w, stands_a, stands_d, derived_d, HasCharacteristic, characteristic-stands}
 use Rattle.risch_logarithm_link.proofs.StandingLogarithms.{AreMadeOf, HaveSequence, logarithms-stand}
 
@@ -77,8 +78,9 @@ module _ {A : Type 0} (F : Field A) where
 
 module _ (tower : List Level) (level : ℕ) (h : Element) (s : IsSetting tower level h) where
   -- the logarithms are made of those of the theory, and the derivatives of these add up to a/d and, at an exponential, η·p_1
-  pub record HaveResidueLogarithms (logs : List LogPart) : Type 0 where
+  pub record HaveResidueLogarithms (traces : List Element) (logs : List LogPart) : Type 0 where
     pub rho : Polynomial (below level)
+    pub traces_are : (i : ℕ) → i < length traces → IsImage (below level) (inclusion level) (get_or traces i element.zero) (power_trace (below level) (d tower level h s) (nonzero_d tower level h s) rho (suc i))
     pub rho-equation : Divides (below level) (d tower level h s) (sub (polynomials (below level)) ((polynomials (below level)).mul rho (e tower level h s)) (a tower level h s))
     pub rs : List (RuleLogarithm (below level))
     pub are_made : AreMadeOf (below level) (inclusion level) level logs rs
@@ -89,9 +91,9 @@ module _ (tower : List Level) (level : ℕ) (h : Element) (s : IsSetting tower l
   small_e : size (below level) (e tower level h s) ≤ size (below level) (d tower level h s)
   small_e = size-derivative (below level) (D tower level h s) (w tower level h s) (d tower level h s) (small_w tower level h s)
 
-  of_characteristic : (C : List Element) (parts : List (List Element)) (logs : List LogPart) → HasCharacteristic tower level h s C parts
-      → logarithms_from tower level (numerator_at level h) (denominator_at level h) 1 None [] parts ≡ Ok logs → HaveResidueLogarithms logs
-  of_characteristic C parts logs c is = of_sequence
+  of_characteristic : (traces C : List Element) (parts : List (List Element)) (logs : List LogPart) → HasCharacteristic tower level h s traces C parts
+      → logarithms_from tower level (numerator_at level h) (denominator_at level h) 1 None [] parts ≡ Ok logs → HaveResidueLogarithms traces logs
+  of_characteristic traces C parts logs c is = of_sequence
       (logarithms-stand (below level) (inclusion level) (D tower level h s) (w tower level h s) char (d tower level h s) (a tower level h s) (monic_d tower level h s) (coprime_d tower level h s)
       (let l = smaller_a tower level h s in omega (arith, l)) small_e c.characteristic
       (newton_polynomial-is_monic (below level) (d tower level h s) (nonzero_d tower level h s) c.rho c.characteristic c.is_newton) c.is_newton.size-le
@@ -109,9 +111,10 @@ module _ (tower : List Level) (level : ℕ) (h : Element) (s : IsSetting tower l
           (newton_polynomial-is_residue_polynomial (below level) (D tower level h s) (w tower level h s) char (d tower level h s) (a tower level h s) (monic_d tower level h s) (coprime_d tower level h s) c.rho c.rho-equation
           c.characteristic c.is_newton)
           c.parts_below c.product c.are_parts tower level (numerator_at level h) (denominator_at level h) (stands_a tower level h s) (stands_d tower level h s) (derived_d tower level h s)
-          1 c.parts_below [] logs → HaveResidueLogarithms logs
+          1 c.parts_below [] logs → HaveResidueLogarithms traces logs
       of_sequence y = record {
         rho = c.rho;
+        traces_are = c.traces_are;
         rho-equation = c.rho-equation;
         rs = y.have.rs;
         are_made = subst (λ ls. AreMadeOf (below level) (inclusion level) level ls y.have.rs) (sym y.have.all) y.have.are_made;
@@ -125,9 +128,9 @@ module _ (tower : List Level) (level : ℕ) (h : Element) (s : IsSetting tower l
   pub logarithms-are : (rho traces : List Element) (logs : List LogPart)
       → Divides elements (polynomial (denominator_at level h)) (sub (polynomials elements) ((polynomials elements).mul (polynomial rho) ((level_derivation (monomials tower) level).derive (polynomial (denominator_at level h)))) (polynomial (numerator_at level h)))
       → AllValid IsElement traces → AllWithin 0 traces → ArePowerTraces (denominator_at level h) rho traces → length traces ≡ length (denominator_at level h) - 1
-      → logarithms tower level h traces ≡ Ok logs → HaveResidueLogarithms logs
+      → logarithms tower level h traces ≡ Ok logs → HaveResidueLogarithms traces logs
   unfolding logarithms
   logarithms-are rho traces logs given valid rational are count is =
       let x = and_then-ok (characteristic_polynomial traces) (λ C. and_then (square_free_parts C) (λ parts. logarithms_from tower level (numerator_at level h) (denominator_at level h) 1 None [] parts)) logs is in
       let y = and_then-ok (square_free_parts x.value) (λ parts. logarithms_from tower level (numerator_at level h) (denominator_at level h) 1 None [] parts) logs x.next in
-      of_characteristic x.value y.value logs (characteristic-stands tower level h s rho traces x.value y.value given valid rational are count x.is y.is) y.next
+      of_characteristic traces x.value y.value logs (characteristic-stands tower level h s rho traces x.value y.value given valid rational are count x.is y.is) y.next

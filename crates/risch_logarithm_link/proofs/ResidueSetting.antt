@@ -17,7 +17,7 @@ use Rattle.risch_univariate.proofs.Degree as Degree
 use Rattle.risch_univariate.proofs.Derivation as PolynomialDerivation
 use Rattle.risch_univariate.proofs.FormalDerivative.{coefficientwise, coefficient-coefficientwise}
 use Rattle.risch_univariate.proofs.Gcd as Gcd
-use Rattle.risch_extension.specs.NewtonPolynomial.{IsNewtonPolynomial}
+use Rattle.risch_extension.specs.NewtonPolynomial.{power_trace, IsNewtonPolynomial}
 use Rattle.risch_residue_theory.proofs.LogarithmsOfTraces.{newton_polynomial-is_monic}
 use Rattle.risch_residue_theory.proofs.RuleLogarithms.{size-derivative, size-multiple}
 use Rattle.risch_mean.specs.Element as mean
@@ -52,6 +52,7 @@ use Rattle.risch_logarithm_theory.specs.FieldBelow.{below, included_polynomial, 
 use Rattle.risch_logarithm_theory.proofs.FieldBelow as Below
 use Rattle.risch_logarithm_theory.proofs.MappedPolynomials as Mapped
 use Rattle.risch_logarithm_rules.specs.Newton.{characteristic_polynomial}
+use Rattle.risch_logarithm_link.proofs.NewtonCoefficients.{IsImage}
 use Rattle.risch_logarithm_link.proofs.NewtonPolynomials.{HasNewtonPolynomial, newton-stands, traces-image, IsResidue, residue_below}
 use Rattle.risch_logarithm_link.proofs.NewtonRules.{characteristic_polynomial-within, parts-within}
 use Rattle.risch_logarithm_link.proofs.StandingLogarithms.{StandForParts}
@@ -177,8 +178,9 @@ module _ (tower : List Level) (level : ℕ) (h : Element) (s : IsSetting tower l
 
   -- ---- the characteristic polynomial of the residues and its parts
   -- ρ with ρ·D(d) = a modulo d, C by Newton's rule with constant coefficients, and its square-free parts, as lists and over K
-  pub record HasCharacteristic (C : List Element) (parts : List (List Element)) : Type 0 where
+  pub record HasCharacteristic (traces C : List Element) (parts : List (List Element)) : Type 0 where
     pub rho : Polynomial (below level)
+    pub traces_are : (i : ℕ) → i < length traces → IsImage (below level) (inclusion level) (get_or traces i element.zero) (power_trace (below level) d nonzero_d rho (suc i))
     pub rho-equation : Divides (below level) d (sub (polynomials (below level)) ((polynomials (below level)).mul rho e) a)
     pub characteristic : Polynomial (below level)
     pub is_newton : IsNewtonPolynomial (below level) d nonzero_d rho characteristic
@@ -191,16 +193,18 @@ module _ (tower : List Level) (level : ℕ) (h : Element) (s : IsSetting tower l
   pub characteristic-stands : (rho traces C : List Element) (parts : List (List Element))
       → Divides elements (polynomial (denominator_at level h)) (sub (polynomials elements) ((polynomials elements).mul (polynomial rho) ((level_derivation (monomials tower) level).derive (polynomial (denominator_at level h)))) (polynomial (numerator_at level h)))
       → AllValid IsElement traces → AllWithin 0 traces → ArePowerTraces (denominator_at level h) rho traces → length traces ≡ length (denominator_at level h) - 1
-      → characteristic_polynomial traces ≡ Ok C → square_free_parts C ≡ Ok parts → HasCharacteristic C parts
+      → characteristic_polynomial traces ≡ Ok C → square_free_parts C ≡ Ok parts → HasCharacteristic traces C parts
   characteristic-stands rho traces C parts given valid rational are count is_C is_parts = of_newton
-      (newton-stands (below level) (inclusion level) (Below.below-characteristic_zero level) d nonzero_d ρ traces C (omega (arith, size_d, count, some)) (omega (arith, count, small))
-      (traces-image (below level) (inclusion level) (denominator_at level h) rho traces d ρ nonzero_d stands_d valid are count residue.congruent) is_C)
+      (newton-stands (below level) (inclusion level) (Below.below-characteristic_zero level) d nonzero_d ρ traces C (omega (arith, size_d, count, some)) (omega (arith, count, small)) images is_C)
     where
       ρ : Polynomial (below level)
       ρ = (polynomials (below level)).mul coprime_d.right a
 
       residue : IsResidue (below level) (inclusion level) (denominator_at level h) rho d a e ((polynomials (below level)).mul coprime_d.right a)
       residue = residue_below (below level) (inclusion level) (denominator_at level h) (numerator_at level h) rho d a e _ stands_d stands_a included_e coprime_d given
+
+      images : (i : ℕ) → i < length traces → IsImage (below level) (inclusion level) (get_or traces i element.zero) (power_trace (below level) d nonzero_d ((polynomials (below level)).mul coprime_d.right a) (suc i))
+      images = traces-image (below level) (inclusion level) (denominator_at level h) rho traces d ρ nonzero_d stands_d valid are count residue.congruent
 
       size_d : size (below level) d ≡ length (denominator_at level h)
       size_d = Standing.stands-size (below level) (inclusion level) (denominator_at level h) d stands_d
@@ -211,7 +215,7 @@ module _ (tower : List Level) (level : ℕ) (h : Element) (s : IsSetting tower l
       small : length (denominator_at level h) ≤ 256
       small = denominator_kept.degree_small
 
-      of_newton : HasNewtonPolynomial (below level) (inclusion level) C d nonzero_d ρ → HasCharacteristic C parts
+      of_newton : HasNewtonPolynomial (below level) (inclusion level) C d nonzero_d ρ → HasCharacteristic traces C parts
       of_newton c = of_parts (square_free_parts-mean C parts c.stands.kept monic_C is_parts)
         where
           monic_below : IsMonic (below level) c.polynomial_of
@@ -220,11 +224,12 @@ module _ (tower : List Level) (level : ℕ) (h : Element) (s : IsSetting tower l
           monic_C : IsMonic elements (polynomial C)
           monic_C = subst (IsMonic elements) c.stands.image (Mapped.monic-map (below level) elements (inclusion level) c.polynomial_of monic_below)
 
-          of_parts : AreSquareFreeParts C parts → HasCharacteristic C parts
+          of_parts : AreSquareFreeParts C parts → HasCharacteristic traces C parts
           of_parts k =
               let over = over_all level parts k.kept (parts-within level traces C parts rational is_C is_parts) in
               record {
                 rho = ρ;
+                traces_are = images;
                 rho-equation = residue.equation;
                 characteristic = c.polynomial_of;
                 is_newton = c.is_newton;
