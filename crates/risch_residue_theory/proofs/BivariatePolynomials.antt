@@ -16,7 +16,7 @@ use Rattle.risch_fraction_field.specs.Representation.{of_polynomial-zero}
 use Rattle.risch_fraction_field.specs.FractionField.{fractions}
 use Rattle.risch_residue_theory.specs.BivariatePolynomial.{bivariate, coefficient_at, content}
 
-map-get : {A B : Type 0} (f : A → B) (x : A) (y : B) → f x ≡ y → (xs : List A) (i : ℕ) → get_or (map f xs) i y ≡ f (get_or xs i x)
+pub map-get : {A B : Type 0} (f : A → B) (x : A) (y : B) → f x ≡ y → (xs : List A) (i : ℕ) → get_or (map f xs) i y ≡ f (get_or xs i x)
 map-get f x y e [] i = sym e
 map-get f x y e (z ∷ zs) zero = refl
 map-get f x y e (z ∷ zs) (suc i) = map-get f x y e zs i
@@ -32,7 +32,7 @@ module _ {A : Type 0} (F : Field A) where
 
   module _ {C : Type 0} (E : Field C) (f : RingMap F.ring E.ring) (α : C) where
     -- Σ c_i(α)·t^i
-    pub values_at : List (Polynomial F) → Polynomial E
+    unfoldable pub values_at : List (Polynomial F) → Polynomial E
     values_at cs = of_list E (map (at F E f α) cs)
 
     -- (Σ c_i(α)·t^i)_i = c_i(α)

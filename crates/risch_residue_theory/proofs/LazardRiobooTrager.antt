@@ -101,6 +101,25 @@ module _ {A : Type 0} (F : Field A) where
 
 -- ---- the arguments
 
+-- d is gcd(d, a - β·e), where this has the degree of d
+pub denominator_values : {A C : Type 0} (F : Field A) (E : Field C) (f : RingMap F.ring E.ring) (β : C) (d a e : Polynomial F) → IsMonic F d → size E (gcd_at F E f β d a e) ≡ size F d
+    → Evaluation.value (fractions F) (fractions E).ring (fraction_map F E f) ((constant_fraction E).apply β) (constant (fractions F) (of_polynomial F d)) ≡ of_polynomial E (gcd_at F E f β d a e)
+denominator_values F E f β d a e is_monic q =
+    Evaluation.value-constant (fractions F) (fractions E).ring (fraction_map F E f) ((constant_fraction E).apply β) (of_polynomial F d)
+    ∙ fraction_map-polynomial F E f d
+    ∙ ap (of_polynomial E) (Gcd.monic_antisymm E (map_polynomial F E f d) (gcd_at F E f β d a e) d-monic
+    (Gcd.gcd-is_monic E _ _ (Gcd.gcd-nonzero_left E _ _ d-nonzero))
+    (Irreducible.divides_of_same_size E (gcd_at F E f β d a e) (map_polynomial F E f d) (Gcd.gcd-divides_left E _ _) d-nonzero (q ∙ sym (size-map_polynomial F E f d)))
+    (Gcd.gcd-divides_left E _ _))
+  where
+    d-nonzero : ¬ (map_polynomial F E f d ≡ (polynomials E).zero)
+    d-nonzero = map_polynomial-nonzero F E f d (Gcd.monic-nonzero F d is_monic)
+
+    d-monic : IsMonic E (map_polynomial F E f d)
+    d-monic =
+        coefficient-map_polynomial F E f d _
+        ∙ ap (λ s. f.apply (coefficient F d (pred s))) (size-map_polynomial F E f d) ∙ ap f.apply is_monic ∙ f.apply-one
+
 module _ {A : Type 0} (F : Field A) (D : Derivation F.ring) (w : Polynomial F) (char : HasCharacteristicZero F.ring) (d a : Polynomial F) (is_monic : IsMonic F d)
     (coprime : IsCoprime F d (Derivation.derive_polynomial F D w d)) (n : ℕ) (positive : 1 ≤ n) (css : List (List (Polynomial F)))
     (sequence : PrimitiveSequence F n d a (Derivation.derive_polynomial F D w d) css) where
@@ -113,29 +132,8 @@ module _ {A : Type 0} (F : Field A) (D : Derivation F.ring) (w : Polynomial F) (
       → Evaluation.value (fractions F) (fractions X.field).ring (fraction_map F X.field X.map) ((constant_fraction X.field).apply β) l.argument
       ≡ of_polynomial X.field (gcd_at F X.field X.map β d a (Derivation.derive_polynomial F D w d))
   argument_values X k l (inl h) β z q =
-      ap (Evaluation.value (fractions F) (fractions E).ring (fraction_map F E X.map) ((constant_fraction E).apply β)) h.1
-      ∙ Evaluation.value-constant (fractions F) (fractions E).ring (fraction_map F E X.map) ((constant_fraction E).apply β) (of_polynomial F d)
-      ∙ fraction_map-polynomial F E X.map d
-      ∙ ap (of_polynomial E) (Gcd.monic_antisymm E (map_polynomial F E X.map d) G d-monic G-monic
-      (Irreducible.divides_of_same_size E G (map_polynomial F E X.map d) (Gcd.gcd-divides_left E _ _) d-nonzero (q ∙ sym (size-map_polynomial F E X.map d ∙ h.0)))
-      (Gcd.gcd-divides_left E _ _))
-    where
-      E : Field X.carrier
-      E = X.field
-
-      G : Polynomial X.field
-      G = gcd_at F X.field X.map β d a (Derivation.derive_polynomial F D w d)
-
-      d-nonzero : ¬ (map_polynomial F X.field X.map d ≡ (polynomials X.field).zero)
-      d-nonzero = map_polynomial-nonzero F X.field X.map d (Gcd.monic-nonzero F d is_monic)
-
-      G-monic : IsMonic X.field (gcd_at F X.field X.map β d a (Derivation.derive_polynomial F D w d))
-      G-monic = Gcd.gcd-is_monic X.field _ _ (Gcd.gcd-nonzero_left X.field _ _ d-nonzero)
-
-      d-monic : IsMonic X.field (map_polynomial F X.field X.map d)
-      d-monic =
-          coefficient-map_polynomial F X.field X.map d _
-          ∙ ap (λ s. X.map.apply (coefficient F d (pred s))) (size-map_polynomial F X.field X.map d) ∙ ap X.map.apply is_monic ∙ X.map.apply-one
+      ap (Evaluation.value (fractions F) (fractions X.field).ring (fraction_map F X.field X.map) ((constant_fraction X.field).apply β)) h.1
+      ∙ denominator_values F X.field X.map β d a (Derivation.derive_polynomial F D w d) is_monic (q ∙ sym h.0)
   argument_values X k l (inr h) β z q =
       ap (Evaluation.value (fractions F) (fractions X.field).ring (fraction_map F X.field X.map) ((constant_fraction X.field).apply β)) h.equation
       ∙ value-by_powers F X.field X.map β h.coefficients
@@ -156,7 +154,7 @@ module _ {A : Type 0} (F : Field A) (D : Derivation F.ring) (w : Polynomial F) (
 
 -- ---- the theorem
 
-stable : {A : Type 0} (F : Field A) (x y : A) → ¬ ¬ (x ≡ y) → x ≡ y
+pub stable : {A : Type 0} (F : Field A) (x y : A) → ¬ ¬ (x ≡ y) → x ≡ y
 stable F x y h = elim (FieldLaws.dec_eq F x y) [ yes e ↦ e | no n ↦ absurd (h n) ]
 
 -- Dt = η in K: the derivative of the logarithms is h = a/d

@@ -3,6 +3,9 @@ pub mod PlaceAtPoint
 pub mod FractionMap
 pub mod BivariatePolynomials
 pub mod Content
+pub mod PrimitiveParts
+pub mod ConstantParts
+pub mod TracesModulo
 pub mod RemainderSequences
 pub mod PseudoRemainder
 pub mod GcdAtResidues
@@ -17,4 +20,8 @@ pub mod ResiduePolynomialByTraces
 pub mod InvertibleArguments
 pub mod InvertibleParts
 pub mod LazardRiobooTrager
+pub mod RuleDerivatives
+pub mod OrderedByPowers
+pub mod RuleArguments
 pub mod LogarithmsOfTraces
+pub mod RuleLogarithms

@@ -53,7 +53,7 @@ module _ {A : Type 0} (F : Field A) (D : Derivation F.ring) (X : Extension F D) 
             ∙ value-map_polynomial F G X.map x (FormalDerivative.formal_derivative F P) ∙ e)
 
     -- s(x) has the inverse v(x) at the roots of P
-    inverse-at : (s : Polynomial F) (c : IsCoprime F s P) (x : X.carrier) → Member x xs → X.field.mul (at x c.left) (at x s) ≡ X.field.one
+    pub inverse-at : (s : Polynomial F) (c : IsCoprime F s P) (x : X.carrier) → Member x xs → X.field.mul (at x c.left) (at x s) ≡ X.field.one
     inverse-at s c x m =
         sym (G.add-zero _)
         ∙ ap₂ G.add (sym (Evaluation.value-mul F G.ring X.map x c.left s))

@@ -60,7 +60,7 @@ map-lift F E f P = polynomial_ext (fractions E) _ _ (λ i.
     ∙ constant_fraction-apply E _ ∙ ap (λ z. of_polynomial E (constant E z)) (coefficient-map_polynomial F E f P i)))
 
 module _ {A : Type 0} (F : Field A) (D : Derivation F.ring) (w : Polynomial F) where
-  lift-constant : (P : Polynomial F) → FormalDerivative.coefficientwise F D P ≡ (polynomials F).zero → FormalDerivative.coefficientwise (fractions F) (∂ F D w) (lift F P) ≡ (polynomials (fractions F)).zero
+  pub lift-constant : (P : Polynomial F) → FormalDerivative.coefficientwise F D P ≡ (polynomials F).zero → FormalDerivative.coefficientwise (fractions F) (∂ F D w) (lift F P) ≡ (polynomials (fractions F)).zero
   lift-constant P c = polynomial_ext (fractions F) _ _ (λ i.
       FormalDerivative.coefficient-coefficientwise (fractions F) (∂ F D w) (lift F P) i
       ∙ ap (∂ F D w).derive (coefficient-map_polynomial F (fractions F) (constant_fraction F) P i ∙ constant_fraction-apply F (coefficient F P i))

@@ -30,7 +30,7 @@ use Rattle.risch_residue_theory.specs.Logarithm.{Logarithm, derivative, AreLogar
 use Rattle.risch_residue_theory.specs.LogarithmArgument.{IsArgument}
 
 -- C is monic, of degree deg d
-newton_polynomial-is_monic : {A : Type 0} (F : Field A) (d : Polynomial F) (nonzero : ¬ (d ≡ (polynomials F).zero)) (ρ C : Polynomial F) → IsNewtonPolynomial F d nonzero ρ C → IsMonic F C
+pub newton_polynomial-is_monic : {A : Type 0} (F : Field A) (d : Polynomial F) (nonzero : ¬ (d ≡ (polynomials F).zero)) (ρ C : Polynomial F) → IsNewtonPolynomial F d nonzero ρ C → IsMonic F C
 newton_polynomial-is_monic F d nonzero ρ C c =
     ap (coefficient F C)
     (let u = Degree.size-ge F C (pred (size F d)) (λ z. F.one-ne-zero (sym top ∙ z)) in let s = c.size-le in let q = Degree.size_of_nonzero F d nonzero in

@@ -9,6 +9,8 @@ use Rattle.risch_ring.proofs.Solver.{ring}
 use Rattle.std.specs.Prelude.{[], ◌∷◌}
 use Rattle.risch_univariate.specs.Polynomial.{Polynomial, constant, variable, coefficient}
 use Rattle.risch_univariate.specs.Degree.{size, leading_coefficient}
+use Rattle.risch_univariate.specs.Division.{Divides}
+use Rattle.risch_univariate.proofs.Divides as Divides
 use Rattle.risch_ring.proofs.FieldLaws as FieldLaws
 use Rattle.risch_univariate.proofs.Degree as Degree
 use Rattle.risch_univariate.specs.PolynomialRing.{polynomials}
@@ -128,6 +130,19 @@ module _ {B : Type 0} (L : Field B) where
             (let s = h.size-quotient in omega (arith, s));
         smaller = h.smaller;
       }
+
+  -- M divides P where the pseudo-remainder of P by M is 0
+  pub divides_of_pseudo_remainder : (n m : ℕ) (P M : Polynomial L) → size L M ≡ suc m → size L P ≡ n + m → pseudo_remainder n P M ≡ (polynomials L).zero → Divides L M P
+  divides_of_pseudo_remainder n m P M q p e =
+      subst (Divides L M)
+      (sym (R.mul_assoc (constant L (L.inverse h.factor)) (constant L h.factor) P)
+      ∙ ap (λ z. R.mul z P) (sym (Degree.constant-mul L (L.inverse h.factor) h.factor) ∙ ap (constant L) (FieldLaws.inverse-mul L h.factor h.factor-nonzero) ∙ Degree.constant-one L) ∙ Laws.one-mul R P)
+      (Divides.divides-mul_left L M (constant L (L.inverse h.factor)) (R.mul (constant L h.factor) P)
+      (Divides.divides_of_add L M (R.mul h.quotient M) (R.mul (constant L h.factor) P) (Divides.divides-mul L h.quotient M)
+      (subst (Divides L M) (sym e ∙ h.equation ∙ R.add_comm _ _) (Divides.divides-zero L M))))
+    where
+      h : IsPseudoRemainder n P M (pseudo_remainder n P M)
+      h = pseudo_remainder-is n m P M q (omega (arith, p))
 
   -- N with γ·N = the pseudo-remainder of P by M is the next member, for γ ≠ 0 (the content)
   pub next_of_pseudo_remainder : (n m : ℕ) (P M N : Polynomial L) (γ : B) → size L M ≡ suc m → size L P ≡ n + m → ¬ (γ ≡ L.zero)

@@ -3,3 +3,4 @@ pub mod RemainderSequence
 pub mod Residue
 pub mod Logarithm
 pub mod LogarithmArgument
+pub mod RuleLogarithm

@@ -3,8 +3,8 @@
 --     parts_by-solved      the parts, in each of the three cases
 --     parts_by-means      they are canonical parts
 use Rattle.std.specs.Prelude.{if◌then◌else◌}
-use Rattle.std.proofs.Common.{◌≡◌, ℕ, ◌+◌, ◌≤◌, ◌<◌, Bool, true, false, List, [], ◌∷◌, length, Option, None, Some, Ok, refl, sym, ◌∙◌, ap, ap₂, arith, subst}
-use Rattle.risch_ring.specs.CommRing.{CommRing, Derivation}
+use Rattle.std.proofs.Common.{◌≡◌, ℕ, ◌+◌, ◌≤◌, ◌<◌, Bool, true, false, List, [], Option, None, Some, Ok, refl, sym, ◌∙◌, ap, ap₂, arith, subst}
+use Rattle.risch_ring.specs.CommRing.{CommRing}
 use Rattle.risch_ring.proofs.FieldLaws as FieldLaws
 use Rattle.risch_ring.proofs.Laws as Laws
 use Rattle.risch_univariate.specs.Polynomial.{Polynomial}
@@ -30,24 +30,22 @@ use Rattle.risch_derivation.specs.declared.rate.Kind.TheVariants.{Primitive, Exp
 use Rattle.risch_element_theory.specs.WholeTower.{IsElement, IsPolynomial, meaning, polynomial, Within, AllWithin}
 use Rattle.risch_element_theory.specs.ElementPolynomials.{IsDivisionOf, IsSolution}
 use Rattle.risch_element_theory.proofs.ElementLaws.{zero-is_element, sum-is_element, sum-stands}
-use Rattle.risch_element_theory.proofs.ElementPolynomials.{element_interprets, solve-stands, left_solution-is_polynomial, right_solution-is_polynomial, solution_exists}
+use Rattle.risch_element_theory.proofs.ElementPolynomials.{element_interprets, solve-stands, solution_exists}
 use Rattle.risch_element_theory.proofs.ElementWithin.{zero-element-within, sum-element-within}
 use Rattle.risch_element_theory.proofs.ElementsTranscendence as Transcendence
 use Rattle.risch_element_theory.proofs.PartsLaws as Parts
 use Rattle.risch_element_theory.proofs.PolynomialsWithin.{left_solution-within, right_solution-within}
 use Rattle.risch_tower.specs.declared.level.Level.{Level}
 use Rattle.risch_tower.specs.Tower.{rate_at}
-use Rattle.risch_tower.specs.TowerMeaning.{monomials}
 use Rattle.risch_split.specs.declared.splitting.Split.{Split}
 use Rattle.risch_split.specs.declared.canonical_parts.Canonical.{Canonical}
 use Rattle.risch_monomial.specs.LevelElements.{of_polynomial}
 use Rattle.risch_monomial.specs.LevelElements.{numerator_at, denominator_at, ratio}
 use Rattle.risch_split.specs.Canonical.{reduced_part, without_special, without_normal, parts_of, parts_by}
-use Rattle.risch_monomial.specs.LevelDerivation.{level_derivation}
 use Rattle.risch_monomial.specs.NormalPolynomials.{IsSpecialAt}
 use Rattle.risch_split.specs.SplittingMeaning.{IsSplitting, AreCanonicalParts}
 use Rattle.risch_split.proofs.CanonicalSums.{sum-of_parts, product-of_sum, smaller-of_solution}
-use Rattle.risch_monomial.proofs.LevelElements.{IsValueOf, of_polynomial-stands, IsRatioOf, quotient-of_values, ratio-stands}
+use Rattle.risch_monomial.proofs.LevelElements.{of_polynomial-stands, ratio-stands}
 use Rattle.risch_monomial.proofs.LevelPolynomials.{at, at-polynomial, Over, Over-add, Over-mul, Over-constant, Over-polynomial}
 use Rattle.risch_monomial.proofs.LowestTerms.{denominator-monic, parts-product, lowest-terms, lowest-proper}
 use Rattle.risch_monomial.proofs.MonicPolynomials as Monic

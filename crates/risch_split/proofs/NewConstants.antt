@@ -1,7 +1,7 @@
 -- The test of a special part s: where it is not that of a sound tower, the element that it tells has the derivative 0 and is no rational number.
 --     new_constant-means
 use Rattle.std.specs.Prelude.{if◌then◌else◌, nat_le, MatchOption}
-use Rattle.std.proofs.Common.{◌≡◌, ℕ, zero, suc, pred, ◌+◌, ◌-◌, ◌≤◌, Bool, true, false, List, [], ◌∷◌, ◌++◌, length, replicate, Option, None, Some, Ok, Err, Result, refl, sym, ◌∙◌, ap, arith, subst}
+use Rattle.std.proofs.Common.{◌≡◌, ℕ, zero, suc, ◌+◌, ◌-◌, ◌≤◌, Bool, true, false, List, [], ◌∷◌, ◌++◌, length, replicate, Option, None, Some, Ok, Err, refl, sym, ◌∙◌, ap, arith, subst}
 use Rattle.risch_ring.specs.CommRing.{CommRing, Derivation, of_nat, power}
 use Rattle.risch_ring.specs.Lists.{Each}
 use Rattle.risch_ring.proofs.FieldLaws as FieldLaws
@@ -22,7 +22,7 @@ use Rattle.risch_mean.specs.Element as mean
 use Rattle.risch_mean.specs.Element.{variable, ◌*ₑ◌}
 use Rattle.risch_mean.specs.ElementField.{elements}
 use Rattle.risch_mean.specs.Constants.{IsRational}
-use Rattle.risch_mean.specs.Tower.{derive_in, kind_of}
+use Rattle.risch_mean.specs.Tower.{derive_in}
 use Rattle.risch_mean.proofs.ConstantLaws.{rational_in}
 use Rattle.risch_mean.proofs.FieldClosure as FieldClosure
 use Rattle.risch_field.specs.Checked.{Checked, and_then, map_ok}
@@ -33,7 +33,7 @@ use Rattle.risch_level.specs.Levels.{Element, element}
 use Rattle.risch_derivation.specs.declared.rate.Kind.{Kind}
 use Rattle.risch_derivation.specs.declared.rate.Kind.TheVariants.{Primitive, Exponential}
 use Rattle.risch_element_theory.specs.DerivationMeaning.{kind_with}
-use Rattle.risch_element_theory.specs.WholeTower.{IsElement, IsPolynomial, meaning, polynomial, Within, AllWithin}
+use Rattle.risch_element_theory.specs.WholeTower.{IsPolynomial, meaning, polynomial, Within, AllWithin}
 use Rattle.risch_element_theory.proofs.CoefficientProperties as Properties
 use Rattle.risch_element_theory.proofs.DerivationTower.{derivation_in, level-has_rate}
 use Rattle.risch_element_theory.proofs.ElementDerivation.{element-lies, one-stands}
@@ -130,9 +130,12 @@ by_power-ratio level s e low k w is =
     let top = and_then-ok (of_polynomial level s) (λ top. and_then (poly.monomial element element.one (length s - 1)) (λ q. and_then (of_polynomial level q) (λ bottom. element.quotient top bottom))) e is in
     let q = and_then-ok (poly.monomial element element.one (length s - 1)) (λ q. and_then (of_polynomial level q) (λ bottom. element.quotient top.value bottom)) e top.next in
     let bottom = and_then-ok (of_polynomial level q.value) (λ bottom. element.quotient top.value bottom) e q.next in
-    let p = monomial-power level (length s - 1) q.value q.is in
-    (q.value, p, quotient-of_values level s q.value top.value bottom.value e low p.kept p.within p.some
-    (of_polynomial-stands level s top.value low k w top.is) (of_polynomial-stands level q.value bottom.value low p.kept p.within bottom.is) bottom.next)
+    let p = monomial-power level (length s - 1) q.value q.is in (
+      q.value,
+      p,
+      quotient-of_values level s q.value top.value bottom.value e low p.kept p.within p.some
+          (of_polynomial-stands level s top.value low k w top.is) (of_polynomial-stands level q.value bottom.value low p.kept p.within bottom.is) bottom.next,
+    )
 
 -- ---- no rational number
 -- s(t) is none for deg s ≥ 1

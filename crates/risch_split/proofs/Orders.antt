@@ -1,6 +1,6 @@
 -- The denominator M of an element of order 0 has M(0) ≠ 0, as numerator and denominator are coprime.
 use Rattle.std.specs.Prelude.{if◌then◌else◌}
-use Rattle.std.proofs.Common.{◌≡◌, ℕ, zero, suc, ◌<◌, ◌≤◌, Bool, true, false, List, [], ◌∷◌, drop, refl, sym, ◌∙◌, ap, arith, subst, pos, ◌-ℤ◌}
+use Rattle.std.proofs.Common.{◌≡◌, ℕ, zero, suc, ◌<◌, ◌≤◌, Bool, true, false, List, [], ◌∷◌, drop, refl, sym, ◌∙◌, ap, arith, subst, pos}
 use Rattle.std.proofs.lemmas.Int.{ints}
 use Rattle.risch_ring.specs.CommRing.{CommRing, power}
 use Rattle.risch_ring.proofs.Laws as Laws

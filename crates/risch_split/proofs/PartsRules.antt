@@ -1,6 +1,5 @@
 -- The rule of the parts of d: it has at least as many steps as d has coefficients, and what its steps give is the rule's.
-use Rattle.std.specs.Prelude.{if◌then◌else◌}
-use Rattle.std.proofs.Common.{◌≡◌, ℕ, zero, suc, ◌≤◌, ◌<◌, Bool, true, false, List, length, Result, Ok, Err, refl, sym, ap, ap₂, arith}
+use Rattle.std.proofs.Common.{◌≡◌, ℕ, zero, suc, ◌≤◌, ◌<◌, true, false, List, length, Result, Ok, Err, refl, sym, ap, ap₂, arith}
 use Rattle.risch_field.specs.Checked.{Checked, and_then, Agrees, IsStopOf}
 use Rattle.risch_field.specs.declared.Fail.{Fail}
 use Rattle.risch_field.proofs.CheckedSteps.{stop_passes, value_passes}

@@ -2,7 +2,7 @@
 --     size-variable, variable-irreducible      t has degree 1 and is irreducible
 --     divisor-of_power      the monic divisors of a power of t are powers of t
 --     coefficient-of_power      c·t^n has the coefficient 0 at exponent 0, for n > 0
-use Rattle.std.proofs.Common.{◌≡◌, ℕ, zero, suc, pred, ◌≤◌, ◌⊎◌, refl, sym, ◌∙◌, ap, arith, subst, inl, inr}
+use Rattle.std.proofs.Common.{◌≡◌, ℕ, zero, suc, pred, ◌≤◌, ◌⊎◌, sym, ◌∙◌, ap, arith, subst, inl, inr}
 use native.Mathlib.Decide.{dec_le}
 use Rattle.risch_ring.specs.CommRing.{CommRing, Field, power}
 use Rattle.risch_ring.proofs.Laws as Laws

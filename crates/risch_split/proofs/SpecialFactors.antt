@@ -3,14 +3,14 @@
 --     rest-of      d = q·S with a monic q of lower degree, where S is not 1
 --     parts-end, parts-next      the parts of d
 --     parts-split      what parts are, where the special one is that of a sound tower
-use Rattle.std.proofs.Common.{◌≡◌, ℕ, ◌≤◌, ◌<◌, true, false, List, [], length, refl, sym, ◌∙◌, ap, arith, subst, inl, inr, ◌⊎◌}
+use Rattle.std.proofs.Common.{◌≡◌, ℕ, ◌≤◌, ◌<◌, true, false, List, length, sym, ◌∙◌, ap, arith, subst, inl, inr, ◌⊎◌}
 use Rattle.risch_ring.specs.CommRing.{CommRing, Derivation}
 use Rattle.risch_univariate.specs.Polynomial.{Polynomial}
 use Rattle.risch_univariate.specs.PolynomialLaws.{polynomial_ext}
 use Rattle.risch_univariate.specs.PolynomialRing.{polynomials}
 use Rattle.risch_univariate.specs.Degree.{size, IsMonic}
-use Rattle.risch_univariate.specs.Division.{Divides, IsCoprime, IsIrreducible, IsSquareFree}
-use Rattle.risch_univariate.specs.SplittingFactorization.{IsNormal, IsSpecial, SplittingFactorization}
+use Rattle.risch_univariate.specs.Division.{Divides, IsCoprime, IsIrreducible}
+use Rattle.risch_univariate.specs.SplittingFactorization.{IsSpecial, SplittingFactorization}
 use Rattle.risch_univariate.proofs.Degree as Degree
 use Rattle.risch_univariate.proofs.Divides as Divides
 use Rattle.risch_univariate.proofs.FormalDerivative as FormalDerivative

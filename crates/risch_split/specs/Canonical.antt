@@ -1,5 +1,5 @@
 -- The canonical parts of an element f of a level: f = reduced + normal (Bronstein, section 3.5), and the order and the value of an element at the variable of a level, in the order in which the values are formed.
-use Rattle.std.specs.Prelude.{ℕ, ◌-◌, if◌then◌else◌, Option, None, Some, ℤ, pos, ◌-ℤ◌, List, Ok}
+use Rattle.std.specs.Prelude.{ℕ, if◌then◌else◌, Option, None, Some, ℤ, pos, ◌-ℤ◌, List, Ok}
 use Rattle.risch_field.specs.Checked.{Checked, and_then}
 use Rattle.risch_polynomial.specs.Poly as poly
 use Rattle.risch_polynomial.specs.Modular as modular

@@ -86,11 +86,11 @@ pub fn sequence(alloc: Global, d: Member, b: Member, least: u16) -> Result<Items
     Ok(finished(members, above, last)?)
 }
 
-/// The primitive remainder sequence R_0 = d, R_1 = b, R_2, .. of polynomials in t over the polynomials in z: R_(i+1) is the pseudo-remainder of R_(i-1) by R_i, divided by the monic greatest common
-/// divisor of its coefficients.
+/// The primitive remainder sequence R_0 = d, R_1 = b, R_2, .. of polynomials in t over the polynomials in z (Bronstein, section 1.5): R_(i+1) is the pseudo-remainder of R_(i-1) by R_i, divided by
+/// its content, the monic greatest common divisor of its coefficients.
 ///
 /// It ends with the first member from R_1 on of degree at most `least` in t, or with the last that is not 0. The last coefficients of d and b are not 0, and deg b ≤ deg d ≤ 255. Stops: that of the
-/// first value that cannot be formed; Size where the weight of a member, of lc(b)·r or of a multiple of b is beyond its limit.
+/// first value that cannot be formed; Size where the weight of a member beyond R_1, or in a pseudo-division of lc(b)·r, of the multiple of b or of their difference, is beyond its limit.
 pub fn remainders(alloc: Global, d: &ZPoly, b: &ZPoly, least: u16) -> Result<ZPolyList, Fail>
     requires some { 0 < length b.now }
     requires degrees { length b.now ≤ length d.now }

@@ -1,7 +1,6 @@
-use Rattle.std.proofs.Common.{◌≡◌, ◌<◌, length, Ok}
+use Rattle.std.proofs.Common.{◌≡◌, Ok}
 use Rattle.risch_polynomial.specs.Poly as poly
 use Rattle.risch_level.specs.Levels.{element}
-use Rattle.risch_element_theory.specs.WholeTower.{AllWithin}
 use Rattle.risch_monomial.proofs.LevelElements.{length-some}
 use Rattle.risch_split.proofs.NewConstants.{monomial-power}
 use Rattle.risch_split.proofs.special.power_of_variable.Goals as goal

@@ -1,5 +1,4 @@
 use Rattle.std.proofs.Common.{◌≡◌, drop, arith}
-use Rattle.risch_level.specs.Levels.{element}
 use Rattle.risch_split.specs.Splitting.{least_exponent, without_variable}
 use Rattle.risch_split.proofs.LeastExponents.{drop-length, drop-weight, trimmed-length}
 use Rattle.risch_split.proofs.special.without_variable.Goals as goal

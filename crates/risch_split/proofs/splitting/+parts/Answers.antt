@@ -1,4 +1,5 @@
 use Rattle.std.proofs.Common.{refl, sym, arith}
+use Rattle.std.proofs.lemmas.Result.{err_from_is_err_and}
 use Rattle.risch_element_theory.proofs.ElementWithin.{one-element-within}
 use Rattle.risch_monomial.proofs.MonicPolynomials.{monic-length}
 use Rattle.risch_split.proofs.PartsRules.{factor-stops, parts-ended, quotient-stops, rest-stops, product-stops, parts-found}
@@ -9,7 +10,8 @@ pub returns-in_err-factor-clause-rule : goal.returns-in_err-factor-clause-rule
 returns-in_err-factor-clause-rule t c = λ steps l.
     let d = c.args.poly.now in
     let stops = factor-stops c.args.tower.now c.args.level d (monic-length d c.requires.monic) c.in_err-factor.field-0.0 c.in_err-factor.ensures.rule steps l in
-    grind (arith, stops)
+    let ended = err_from_is_err_and c.from_residual.result c.from_residual.ensures.1 in
+    rw (ended.1, ended.2) stops
 
 pub returns-then-is_one-clause-rule : goal.returns-then-is_one-clause-rule
 returns-then-is_one-clause-rule t c = λ steps l.
@@ -33,7 +35,8 @@ returns-in_err-rest-clause-rule t c = λ steps l.
     let d = c.args.poly.now in
     let stops =
     quotient-stops c.args.tower.now c.args.level d (monic-length d c.requires.monic) c.in_ok-factor.factor c.in_ok-factor.ensures.rule c.in_err-rest.field-0.0 (sym c.if-is_one.ensures) c.in_err-rest.ensures.rule steps l in
-    grind (arith, stops)
+    let ended = err_from_is_err_and c.from_residual-in_err-rest.result c.from_residual-in_err-rest.ensures.1 in
+    rw (ended.1, ended.2) stops
 
 pub parts-requires : goal.parts-requires
 parts-requires t c =
@@ -53,7 +56,8 @@ returns-in_err-split-clause-rule t c = λ steps l.
     let stops =
     rest-stops c.args.tower.now c.args.level d (monic-length d c.requires.monic) c.in_ok-factor.factor c.in_ok-factor.ensures.rule c.in_ok-rest.rest c.in_ok-rest._nothing (sym c.if-is_one.ensures)
     c.in_ok-rest.ensures.rule rest.shorter c.in_err-split.field-0.0 c.in_err-split.ensures.rule steps l in
-    grind (arith, stops)
+    let ended = err_from_is_err_and c.from_residual-in_err-split.result c.from_residual-in_err-split.ensures.1 in
+    rw (ended.1, ended.2) stops
 
 pub returns-in_err-special-2-clause-rule : goal.returns-in_err-special-2-clause-rule
 returns-in_err-special-2-clause-rule t c = λ steps l.
@@ -64,7 +68,8 @@ returns-in_err-special-2-clause-rule t c = λ steps l.
     let stops =
     product-stops c.args.tower.now c.args.level d (monic-length d c.requires.monic) c.in_ok-factor.factor c.in_ok-factor.ensures.rule c.in_ok-rest.rest c.in_ok-rest._nothing (sym c.if-is_one.ensures)
     c.in_ok-rest.ensures.rule rest.shorter c.in_ok-split.split c.in_ok-split.ensures.rule c.in_err-special-2.field-0.0 c.in_err-special-2.ensures.rule steps l in
-    grind (arith, stops)
+    let ended = err_from_is_err_and c.from_residual-in_err-special-2.result c.from_residual-in_err-special-2.ensures.1 in
+    rw (ended.1, ended.2) stops
 
 pub returns-clause-rule : goal.returns-clause-rule
 returns-clause-rule t c = λ steps l.

@@ -1,0 +1,2 @@
+pub mod FieldBelow
+pub mod LogarithmElements
