@@ -13,7 +13,7 @@ use Rattle.risch_trace.specs.Traces.{remainder}
 use Rattle.risch_trace.proofs.TraceRules.{remainder-within}
 use Rattle.risch_sub.specs.RemainderSequence.{InZ, Member, leading, content, quotients_onto}
 use Rattle.risch_sub.proofs.RemainderRules.{content-within, quotients-within}
-use Rattle.risch_residue.specs.Logarithms.{remainders_onto, multiples_onto, monic_by, argument_of}
+use Rattle.risch_logarithm_rules.specs.Logarithms.{remainders_onto, multiples_onto, monic_by, argument_of}
 
 -- ---- the polynomial 0
 pub content_nil : (m : Member) → length m ≡ 0 → content m ≡ Ok []

@@ -1,6 +1,7 @@
 pub mod ArgumentSteps
 pub mod CallSteps
+pub mod ConstantResidues
+pub mod LevelsSoFar
 pub mod LogarithmSteps
 pub mod MemberSteps
-pub mod NewtonRules
 pub mod NewtonSteps

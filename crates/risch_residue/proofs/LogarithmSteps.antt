@@ -13,7 +13,7 @@ use Rattle.risch_element_theory.proofs.CoefficientProperties.{coefficient-keeps,
 use Rattle.risch_element_theory.proofs.ElementPolynomials.{trimmed-is_polynomial}
 use Rattle.risch_element_theory.proofs.PolynomialsWithin.{within-closed}
 use Rattle.risch_sub.specs.RemainderSequence.{InZ, Member}
-use Rattle.risch_residue.specs.Logarithms.{argument_of, coefficients_at, polynomial_at, element_at, by_powers_from}
+use Rattle.risch_logarithm_rules.specs.Logarithms.{argument_of, coefficients_at, polynomial_at, element_at, by_powers_from}
 use Rattle.risch_residue.proofs.ArgumentSteps.{argument_of-within}
 
 -- ---- one logarithm

@@ -15,7 +15,7 @@ use Rattle.risch_element_theory.proofs.ElementWithin.{zero-element-within, negat
 use Rattle.risch_element_theory.proofs.PolynomialsWithin.{trimmed-within}
 use Rattle.risch_sub.specs.RemainderSequence.{InZ, Member, weight, with_first, trimmed, sized, remainders}
 use Rattle.risch_sub.proofs.RemainderRules.{remainders-within}
-use Rattle.risch_residue.specs.Logarithms.{constant_in_z, difference_in_z, differences_in_z}
+use Rattle.risch_logarithm_rules.specs.Logarithms.{constant_in_z, difference_in_z, differences_in_z}
 
 -- ---- the differences
 -- one of them is formed

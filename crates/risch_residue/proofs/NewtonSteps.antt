@@ -7,7 +7,7 @@ use Rattle.risch_field.specs.declared.Fail.{Fail}
 use Rattle.risch_field.proofs.CheckedSteps.{stop_passes}
 use Rattle.risch_polynomial.specs.Poly as poly
 use Rattle.risch_level.specs.Levels.{Element, element}
-use Rattle.risch_residue.specs.Newton.{alternating_sum, next_symmetric, symmetrics_from, alternating}
+use Rattle.risch_logarithm_rules.specs.Newton.{alternating_sum, next_symmetric, symmetrics_from, alternating}
 
 -- ---- the alternating sum
 module _ (es ps : List Element) (j : ℕ) (minus : Bool) (total : Element) where

@@ -1,4 +1,2 @@
-pub mod Newton
-pub mod Logarithms
 pub mod ResiduesMeaning
 pub mod Residues

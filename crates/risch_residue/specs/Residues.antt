@@ -9,7 +9,7 @@ use Rattle.risch_run.specs.Counted.{Counted, free, and_counted}
 use Rattle.risch_residue_traces.specs.ResidueTraces.{residue_traces}
 use Rattle.risch_residue_traces.specs.declared.traces.Traces.{Traces}
 use Rattle.risch_residue_traces.specs.declared.traces.Traces.TheVariants as traces
-use Rattle.risch_residue.specs.Logarithms.{logarithms, fraction_of}
+use Rattle.risch_logarithm_rules.specs.Logarithms.{logarithms, fraction_of}
 use Rattle.risch_residue.specs.declared.outcome.Residues.{Residues}
 use Rattle.risch_residue.specs.declared.outcome.Residues.TheVariants.{Constant, NotConstant}
 

@@ -5,7 +5,7 @@ ghost use Rattle.risch_field.specs.Checked.{Agrees, AgreesWith};
 ghost use Rattle.risch_polynomial.specs.Modular as modular;
 ghost use Rattle.risch_level.specs.Levels.{element};
 ghost use Rattle.risch_sub.specs.RemainderSequence as sequence;
-ghost use Rattle.risch_residue.specs.Logarithms as spec;
+ghost use Rattle.risch_logarithm_rules.specs.Logarithms as spec;
 
 use risch_division::inverse_mod;
 use risch_elem::{Fail, Items};
@@ -104,7 +104,7 @@ fn monic_by(
 /// m divided by its content, each coefficient then modulo R, and monic there.
 ///
 /// Stops: that of the first value that cannot be formed.
-#[tactic(auto, using(risch_field::proofs::CheckedSteps::stop_passes, risch_field::proofs::CheckedSteps::value_passes), unfolding(crate::specs::Logarithms::argument_of))]
+#[tactic(auto, using(risch_field::proofs::CheckedSteps::stop_passes, risch_field::proofs::CheckedSteps::value_passes), unfolding(risch_logarithm_rules::specs::Logarithms::argument_of))]
 pub(crate) fn argument_of(alloc: Global, of: &[Inner], modulus: &Inner) -> Result<Member, Fail>
     ensures { Agrees result (spec.argument_of of.now modulus.now) }
 {

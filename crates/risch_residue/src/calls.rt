@@ -3,7 +3,7 @@
 ghost use Rattle.std.specs.Prelude.{◌≡◌, ◌≤◌, ◌<◌, ◌+◌, length, IsFalse, IfOk};
 ghost use Rattle.risch_field.specs.Checked.{Agrees};
 ghost use Rattle.risch_level.specs.Accessors.{as_number};
-ghost use Rattle.risch_residue.specs.Logarithms.{fraction_of};
+ghost use Rattle.risch_logarithm_rules.specs.Logarithms.{fraction_of};
 ghost use Rattle.risch_residue_traces.specs.ResidueTraces.{residue_traces};
 ghost use Rattle.risch_residue_traces.specs.TracesMeaning as sums;
 ghost use Rattle.risch_univariate.specs.SplittingFactorization.{IsNormal};
@@ -24,6 +24,7 @@ ghost use Rattle.risch_residue.specs.ResiduesMeaning.{IfConstant, IfNotConstant,
 use crate::logarithm::fraction;
 use crate::logarithms::logarithms;
 use crate::outcome::Residues;
+use crate::setting::{all_normal, setting};
 use risch_elem::{Elem, Fail, Run, Units};
 use risch_field::Arith;
 use risch_frac::Frac;
@@ -52,15 +53,22 @@ fn residues_by(
 ) -> Result<Residues, Fail>
     requires level { level ≤ length tower.now }
     requires within { Within (level + 1) h.now }
-    requires fractions { sums.IfConstant traces (AllWithin 0) }
+    requires proper { length (numerator_at level h.now) < length (denominator_at level h.now) }
+    requires normal { IsNormal elements (level_derivation (monomials tower.now) level) (polynomial (denominator_at level h.now)) }
+    requires traces { sums.IfConstant traces (sums.AreResidueTraces tower.now level h.now) }
     ensures rule { Agrees result (spec.residues_by tower.now level h.now traces) }
+    ensures constant { IfOk result (λ it. IfConstant it (AreLogarithmsOf tower.now level h.now)) }
+    ensures logarithms { IfOk result (λ it. IfConstant it (λ logs _. AllLogParts (level + 1) logs)) }
     ensures not_constant { sums.IfNotConstant traces (λ power trace. AreNotConstant tower.now level h.now power trace × Within level trace) → IfOk result (λ it. IfNotConstant it (λ power trace. AreNotConstant tower.now level h.now power trace × Within level trace)) }
 {
     match traces {
         Traces::NotConstant { power, trace } => Ok(Residues::NotConstant { power, trace }),
         Traces::Constant(traces) => {
-            let logs = logarithms(alloc, tower, level, h, traces.as_slice())?;
-            let trace = first_trace(traces.as_slice());
+            let traces = traces.as_slice();
+            setting(tower, level, h);
+            all_normal(traces);
+            let logs = logarithms(alloc, tower, level, h, traces)?;
+            let trace = first_trace(traces);
             Ok(Residues::Constant { logs, trace })
         }
     }
@@ -107,6 +115,8 @@ fn residues_of<U: Units>(
     requires proper { length (numerator_at level h.now) < length (denominator_at level h.now) }
     requires normal { IsNormal elements (level_derivation (monomials tower.now) level) (polynomial (denominator_at level h.now)) }
     ensures rule { IsCountedResult result (spec.residues tower.now level h.now) (U.units units.old) (U.units units.new) (U.most units.old) }
+    ensures constant { IfOk result (λ it. IfConstant it (AreLogarithmsOf tower.now level h.now)) }
+    ensures logarithms { IfOk result (λ it. IfConstant it (λ logs _. AllLogParts (level + 1) logs)) }
     ensures not_constant { IfOk result (λ it. IfNotConstant it (λ power trace. AreNotConstant tower.now level h.now power trace × Within level trace)) }
     ensures not_sound { IfErrNotSound result (λ e. constants.IsNewConstant (monomials tower.now) level (meaning e)) }
     ensures leaves { LeavesOf result (U.leaves units.old) (U.leaves units.new) }
@@ -136,6 +146,8 @@ pub fn residues<U: Units>(
     requires proper { length (numerator_at level h.now) < length (denominator_at level h.now) }
     requires normal { IsNormal elements (level_derivation (monomials tower.now) level) (polynomial (denominator_at level h.now)) }
     ensures rule { IsCountedRun result (spec.residues tower.now level h.now) (U.units units.old) (U.units units.new) (U.most units.old) }
+    ensures constant { IfDone result (λ it. IfConstant it (AreLogarithmsOf tower.now level h.now)) }
+    ensures logarithms { IfDone result (λ it. IfConstant it (λ logs _. AllLogParts (level + 1) logs)) }
     ensures not_constant { IfDone result (λ it. IfNotConstant it (λ power trace. AreNotConstant tower.now level h.now power trace × Within level trace)) }
     ensures not_sound { IfNotSound result (λ e. constants.IsNewConstant (monomials tower.now) level (meaning e)) }
     ensures left { OnLeft result (Rose (U.leaves units.old) (U.leaves units.new)) }

@@ -14,6 +14,7 @@ mod logarithms;
 mod members;
 mod newton;
 mod outcome;
+mod setting;
 
 pub use calls::residues;
 pub use outcome::Residues;

@@ -4,7 +4,7 @@ ghost use Rattle.std.specs.Prelude.{◌≡◌, ◌<◌, [], All, IfOk};
 ghost use Rattle.risch_field.specs.Checked.{Agrees};
 ghost use Rattle.risch_level.specs.Accessors.{as_number};
 ghost use Rattle.risch_element_theory.specs.WholeTower.{AllWithin};
-ghost use Rattle.risch_residue.specs.Logarithms as spec;
+ghost use Rattle.risch_logarithm_rules.specs.Logarithms as spec;
 
 use crate::members::coefficient;
 use risch_elem::{Elem, ElemList, Fail, FracList, Poly};
@@ -30,7 +30,7 @@ fn coefficients_at(alloc: Global, exponent: usize, of: &[Inner]) -> Result<Vec<E
 /// The coefficient at z^k as a polynomial in t.
 ///
 /// Stops: Size where it is beyond the limits.
-#[tactic(auto, unfolding(crate::specs::Logarithms::polynomial_at))]
+#[tactic(auto, unfolding(risch_logarithm_rules::specs::Logarithms::polynomial_at))]
 fn polynomial_at(alloc: Global, exponent: usize, of: &[Inner]) -> Result<Poly, Fail>
     ensures { Agrees result (spec.polynomial_at exponent of.now) }
 {
@@ -42,7 +42,7 @@ fn polynomial_at(alloc: Global, exponent: usize, of: &[Inner]) -> Result<Poly, F
 }
 
 /// The coefficient at z^k as an element of the level.
-#[tactic(auto, using(risch_field::proofs::CheckedSteps::stop_passes, risch_field::proofs::CheckedSteps::value_passes), unfolding(crate::specs::Logarithms::element_at))]
+#[tactic(auto, using(risch_field::proofs::CheckedSteps::stop_passes, risch_field::proofs::CheckedSteps::value_passes), unfolding(risch_logarithm_rules::specs::Logarithms::element_at))]
 fn element_at(alloc: Global, level: u8, exponent: usize, of: &[Inner]) -> Result<Elem, Fail>
     requires level { level < 5 }
     requires within { All (AllWithin level) of.now }
@@ -112,7 +112,7 @@ fn fractions(alloc: Global, of: &[Elem]) -> Result<FracList, AllocError>
 /// The sum over the roots z of R of z·log S(z), for S with coefficients below the level.
 ///
 /// Stops: that of the first power of z whose coefficient cannot be formed; Size where S is beyond the limits.
-#[tactic(auto, using(risch_field::proofs::CheckedSteps::stop_passes, risch_field::proofs::CheckedSteps::value_passes), unfolding(crate::specs::Logarithms::logarithm))]
+#[tactic(auto, using(risch_field::proofs::CheckedSteps::stop_passes, risch_field::proofs::CheckedSteps::value_passes), unfolding(risch_logarithm_rules::specs::Logarithms::logarithm))]
 pub(crate) fn logarithm(
     alloc: Global,
     level: u8,

@@ -3,7 +3,7 @@
 ghost use Rattle.std.specs.Prelude.{◌≡◌, ◌≤◌, ◌<◌, ◌+◌, ℕ, [], None, length, All, IfOk, IfSome};
 ghost use Rattle.risch_field.specs.Checked.{Agrees};
 ghost use Rattle.risch_element_theory.specs.WholeTower.{Within, AllWithin};
-ghost use Rattle.risch_residue.specs.Logarithms as spec;
+ghost use Rattle.risch_logarithm_rules.specs.Logarithms as spec;
 
 use crate::argument::argument_of;
 use crate::logarithm::logarithm;
@@ -59,7 +59,7 @@ fn members_or(
 }
 
 /// The argument for R_i, and the members.
-#[tactic(auto, using(risch_field::proofs::CheckedSteps::stop_passes, risch_field::proofs::CheckedSteps::value_passes), unfolding(crate::specs::Logarithms::argument_for))]
+#[tactic(auto, using(risch_field::proofs::CheckedSteps::stop_passes, risch_field::proofs::CheckedSteps::value_passes), unfolding(risch_logarithm_rules::specs::Logarithms::argument_for))]
 fn argument_for(
     alloc: Global,
     tower: &Tower,
@@ -129,7 +129,7 @@ fn logarithms_of_parts(
 /// The logarithms of the residues of an element a/d of a level from the traces p_1 .. p_m of the powers of ρ, m = deg d.
 ///
 /// Stops: that of the first value that cannot be formed, of the characteristic polynomial, its square-free parts, the remainder sequence, the arguments and the logarithms.
-#[tactic(auto, using(risch_field::proofs::CheckedSteps::stop_passes, risch_field::proofs::CheckedSteps::value_passes), unfolding(crate::specs::Logarithms::logarithms))]
+#[tactic(auto, using(risch_field::proofs::CheckedSteps::stop_passes, risch_field::proofs::CheckedSteps::value_passes), unfolding(risch_logarithm_rules::specs::Logarithms::logarithms))]
 pub(crate) fn logarithms(
     alloc: Global,
     tower: &Tower,

@@ -6,7 +6,7 @@ ghost use Rattle.risch_polynomial.specs.Poly as poly;
 ghost use Rattle.risch_level.specs.Levels.{element};
 ghost use Rattle.risch_element_theory.specs.WholeTower.{AllWithin};
 ghost use Rattle.risch_sub.specs.RemainderSequence as sequence;
-ghost use Rattle.risch_residue.specs.Logarithms as spec;
+ghost use Rattle.risch_logarithm_rules.specs.Logarithms as spec;
 
 use risch_elem::{Elem, Fail, Items, Poly};
 use risch_field::Arith;
@@ -85,7 +85,7 @@ fn differences(alloc: Global, left: &[Elem], right: &[Elem]) -> Result<Member, F
 /// The primitive remainder sequence of d and a - z·Dd, down to the degree `least` in t.
 ///
 /// Stops: those of Dd; Size where a - z·Dd is beyond the limit; those of the sequence.
-#[tactic(auto, using(risch_field::proofs::CheckedSteps::stop_passes, risch_field::proofs::CheckedSteps::value_passes), unfolding(crate::specs::Logarithms::sequence))]
+#[tactic(auto, using(risch_field::proofs::CheckedSteps::stop_passes, risch_field::proofs::CheckedSteps::value_passes), unfolding(risch_logarithm_rules::specs::Logarithms::sequence))]
 pub(crate) fn sequence(
     alloc: Global,
     tower: &Tower,

@@ -4,7 +4,7 @@ ghost use Rattle.std.specs.Prelude.{◌≡◌, ◌<◌, [], ◌∷◌, false, le
 ghost use Rattle.risch_field.specs.Checked.{Agrees};
 ghost use Rattle.risch_polynomial.specs.Poly as poly;
 ghost use Rattle.risch_level.specs.Levels.{element};
-ghost use Rattle.risch_residue.specs.Newton as spec;
+ghost use Rattle.risch_logarithm_rules.specs.Newton as spec;
 
 use risch_elem::{Elem, ElemList, Fail};
 use risch_field::Arith;
@@ -46,7 +46,7 @@ fn alternating_sum(alloc: Global, es: &[Elem], traces: &[Elem]) -> Result<Elem, 
 }
 
 /// e_i, from e_0 .. e_(i-1).
-#[tactic(auto, using(risch_field::proofs::CheckedSteps::stop_passes, risch_field::proofs::CheckedSteps::value_passes), unfolding(crate::specs::Newton::next_symmetric))]
+#[tactic(auto, using(risch_field::proofs::CheckedSteps::stop_passes, risch_field::proofs::CheckedSteps::value_passes), unfolding(risch_logarithm_rules::specs::Newton::next_symmetric))]
 fn next_symmetric(alloc: Global, es: &[Elem], traces: &[Elem]) -> Result<Elem, Fail>
     requires { 0 < length es.now }
     ensures { Agrees result (spec.next_symmetric es.now traces.now) }
@@ -86,7 +86,7 @@ fn alternating(alloc: Global, es: &[Elem]) -> Result<Vec<Elem>, AllocError>
 /// z^m - e_1·z^(m-1) + e_2·z^(m-2) - .., the characteristic polynomial of ρ from the traces p_1 .. p_m of its powers.
 ///
 /// Stops: that of the first value that cannot be formed; Size where the polynomial is beyond the limits.
-#[tactic(auto, using(risch_field::proofs::CheckedSteps::stop_passes, risch_field::proofs::CheckedSteps::value_passes), unfolding(crate::specs::Newton::characteristic_polynomial))]
+#[tactic(auto, using(risch_field::proofs::CheckedSteps::stop_passes, risch_field::proofs::CheckedSteps::value_passes), unfolding(risch_logarithm_rules::specs::Newton::characteristic_polynomial))]
 pub(crate) fn characteristic_polynomial(alloc: Global, traces: &[Elem]) -> Result<Inner, Fail>
     ensures { Agrees result (spec.characteristic_polynomial traces.now) }
 {

@@ -1,5 +1,5 @@
 use Rattle.std.proofs.Common.{◌≡◌, drop}
-use Rattle.risch_residue.specs.Logarithms.{remainders_onto}
+use Rattle.risch_logarithm_rules.specs.Logarithms.{remainders_onto}
 use Rattle.risch_residue.proofs.argument.push_remainders.Given as goal
 
 abbrev pub invariant-loop-item : goal.invariant-loop-item

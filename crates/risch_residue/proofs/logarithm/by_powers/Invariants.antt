@@ -1,5 +1,5 @@
 use Rattle.std.proofs.Common.{◌≡◌, ◌-◌, []}
-use Rattle.risch_residue.specs.Logarithms.{by_powers_from}
+use Rattle.risch_logarithm_rules.specs.Logarithms.{by_powers_from}
 use Rattle.risch_residue.proofs.logarithm.by_powers.Given as goal
 
 abbrev pub invariant-loop-exponent : goal.invariant-loop-exponent

@@ -1,5 +1,5 @@
 use Rattle.std.proofs.Common.{◌≡◌, take}
-use Rattle.risch_residue.specs.Logarithms.{fractions_of}
+use Rattle.risch_logarithm_rules.specs.Logarithms.{fractions_of}
 use Rattle.risch_residue.proofs.logarithm.fractions.Given as goal
 
 abbrev pub invariant-loop-coefficient : goal.invariant-loop-coefficient

@@ -1,5 +1,5 @@
 use Rattle.std.proofs.Common.{◌≡◌, max, drop}
-use Rattle.risch_residue.specs.Logarithms.{width}
+use Rattle.risch_logarithm_rules.specs.Logarithms.{width}
 use Rattle.risch_residue.proofs.logarithm.width.Given as goal
 
 abbrev pub invariant-loop-polynomial : goal.invariant-loop-polynomial

@@ -1,7 +1,7 @@
 use Rattle.std.proofs.Common.{◌≡◌, map, All, sym, subst}
 use Rattle.risch_element_theory.specs.WholeTower.{AllWithin}
 use Rattle.risch_sub.specs.RemainderSequence.{Member}
-use Rattle.risch_residue.specs.Logarithms.{constant_in_z}
+use Rattle.risch_logarithm_rules.specs.Logarithms.{constant_in_z}
 use Rattle.risch_residue.proofs.MemberSteps.{constants-within}
 use Rattle.risch_residue.proofs.logarithms.argument_for.Goals as goal
 

@@ -1,7 +1,7 @@
 use Rattle.std.proofs.Common.{◌≤◌, List, length, All, sym, subst, arith}
 use Rattle.risch_level.specs.Levels.{Element}
 use Rattle.risch_element_theory.specs.WholeTower.{AllWithin}
-use Rattle.risch_residue.proofs.NewtonRules.{parts-within, parts-count}
+use Rattle.risch_logarithm_link.proofs.NewtonRules.{parts-within, parts-count}
 use Rattle.risch_residue.proofs.logarithms.logarithms.Goals as goal
 
 pub logarithms_of_parts-requires-clause-parts : goal.logarithms_of_parts-requires-clause-parts

@@ -1,7 +1,7 @@
 use Rattle.std.proofs.Common.{◌≡◌, ◌+◌, None, [], drop, All}
 use Rattle.std.specs.Prelude.{IfSome}
 use Rattle.risch_element_theory.specs.WholeTower.{AllWithin}
-use Rattle.risch_residue.specs.Logarithms.{logarithms_from}
+use Rattle.risch_logarithm_rules.specs.Logarithms.{logarithms_from}
 use Rattle.risch_residue.proofs.logarithms.logarithms_of_parts.Given as goal
 
 abbrev pub invariant-loop-place : goal.invariant-loop-place

@@ -1,5 +1,5 @@
 use Rattle.std.proofs.Common.{◌≡◌, map, take}
-use Rattle.risch_residue.specs.Logarithms.{constant_in_z}
+use Rattle.risch_logarithm_rules.specs.Logarithms.{constant_in_z}
 use Rattle.risch_residue.proofs.members.constants.Given as goal
 
 abbrev pub invariant-loop-coefficient : goal.invariant-loop-coefficient

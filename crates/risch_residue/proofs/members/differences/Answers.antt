@@ -2,7 +2,7 @@ use Rattle.std.proofs.Common.{◌≡◌, ◌∙◌, ◌≤◌, ◌<◌, ◌++◌
 use Rattle.risch_field.specs.Checked.{IsStopOf}
 use Rattle.risch_polynomial.specs.Poly as poly
 use Rattle.risch_level.specs.Levels.{element}
-use Rattle.risch_residue.specs.Logarithms.{difference_in_z, differences_in_z}
+use Rattle.risch_logarithm_rules.specs.Logarithms.{difference_in_z, differences_in_z}
 use Rattle.risch_residue.proofs.MemberSteps.{differences-pushed, differences_end, difference_stops, difference-is}
 use Rattle.risch_residue.proofs.members.differences.Goals as goal
 

@@ -1,5 +1,5 @@
 use Rattle.std.proofs.Common.{◌≡◌, ◌++◌, drop}
-use Rattle.risch_residue.specs.Logarithms.{differences_in_z}
+use Rattle.risch_logarithm_rules.specs.Logarithms.{differences_in_z}
 use Rattle.risch_residue.proofs.members.differences.Given as goal
 
 abbrev pub invariant-loop-j : goal.invariant-loop-j

@@ -1,7 +1,7 @@
 use Rattle.std.proofs.Common.{◌≡◌, ◌≤◌, map, All, Ok, sym, subst, arith}
 use Rattle.risch_element_theory.specs.WholeTower.{AllWithin}
 use Rattle.risch_sub.specs.RemainderSequence.{Member, sized}
-use Rattle.risch_residue.specs.Logarithms.{constant_in_z, differences_in_z}
+use Rattle.risch_logarithm_rules.specs.Logarithms.{constant_in_z, differences_in_z}
 use Rattle.risch_residue.proofs.MemberSteps.{constants-within, sized-within, members-within}
 use Rattle.risch_residue.proofs.members.sequence.Goals as goal
 

@@ -1,5 +1,5 @@
 use Rattle.std.proofs.Common.{◌≡◌, ◌++◌, false, drop}
-use Rattle.risch_residue.specs.Newton.{alternating}
+use Rattle.risch_logarithm_rules.specs.Newton.{alternating}
 use Rattle.risch_residue.proofs.newton.alternating.Given as goal
 
 abbrev pub invariant-loop-e : goal.invariant-loop-e

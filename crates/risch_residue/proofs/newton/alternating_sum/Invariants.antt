@@ -1,6 +1,6 @@
 use Rattle.std.proofs.Common.{◌≡◌, false, drop, reverse}
 use Rattle.risch_level.specs.Levels.{element}
-use Rattle.risch_residue.specs.Newton.{alternating_sum}
+use Rattle.risch_logarithm_rules.specs.Newton.{alternating_sum}
 use Rattle.risch_residue.proofs.newton.alternating_sum.Given as goal
 
 abbrev pub invariant-loop-j : goal.invariant-loop-j

@@ -1,5 +1,5 @@
 use Rattle.std.proofs.Common.{◌≡◌, ◌∙◌, ◌+◌, ◌-◌, ◌<◌, ◌++◌, ◌∷◌, [], length, Ok, refl, arith, length-append}
-use Rattle.risch_residue.specs.Newton.{next_symmetric}
+use Rattle.risch_logarithm_rules.specs.Newton.{next_symmetric}
 use Rattle.risch_residue.proofs.NewtonSteps.{symmetrics-more}
 use Rattle.risch_residue.proofs.newton.symmetrics.Goals as goal
 

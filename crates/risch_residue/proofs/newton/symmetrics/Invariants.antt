@@ -1,6 +1,6 @@
 use Rattle.std.proofs.Common.{◌≡◌, ◌-◌, ◌<◌, [], ◌∷◌, length}
 use Rattle.risch_level.specs.Levels.{element}
-use Rattle.risch_residue.specs.Newton.{symmetrics_from}
+use Rattle.risch_logarithm_rules.specs.Newton.{symmetrics_from}
 use Rattle.risch_residue.proofs.newton.symmetrics.Given as goal
 
 abbrev pub invariant-loop-step : goal.invariant-loop-step

@@ -15,7 +15,7 @@ use Rattle.risch_element_theory.proofs.ElementWithin.{zero-element-within, one-e
 use Rattle.risch_element_theory.proofs.PolynomialsWithin.{within-closed}
 use Rattle.risch_sub.specs.SquareFree.{parts_from, square_free_parts}
 use Rattle.risch_sub.proofs.SquareFreeRules.{square_free_parts-within}
-use Rattle.risch_residue.specs.Newton.{inverse_of, alternating_sum, next_symmetric, symmetrics_from, alternating, characteristic_polynomial}
+use Rattle.risch_logarithm_rules.specs.Newton.{inverse_of, alternating_sum, next_symmetric, symmetrics_from, alternating, characteristic_polynomial}
 
 -- ---- the variables that occur
 module _ (n : ℕ) where

@@ -16,7 +16,7 @@ use Rattle.risch_trace.specs.Traces.{remainder}
 use Rattle.risch_sub.specs.SquareFree.{square_free_parts}
 use Rattle.risch_sub.specs.RemainderSequence.{InZ, Member, leading, sized, remainders, content, quotients_onto}
 use Rattle.risch_rootsum.specs.declared.integral.LogPart.{LogPart}
-use Rattle.risch_residue.specs.Newton.{characteristic_polynomial}
+use Rattle.risch_logarithm_rules.specs.Newton.{characteristic_polynomial}
 
 -- ---- the first two members of the sequence
 -- c as a polynomial in z
