@@ -197,10 +197,11 @@ module _ {A : Type 0} (F : Field A) (f : RingMap F.ring elements.ring) where
   signed-product false e p m x y h k is =
       (element_interprets.product-valid e p m h.normal k.normal is, element_interprets.product-means e p m h.normal k.normal is ∙ ap₂ mean.mul (sym h.image) (sym k.image) ∙ sym (f.apply-mul x y))
   signed-product true e p m x y h k is =
-      let n = element_interprets.negative-valid e h.normal in
-      (element_interprets.product-valid (element.negative e) p m n k.normal is,
-      element_interprets.product-means (element.negative e) p m n k.normal is
-      ∙ ap₂ mean.mul (element_interprets.negative-means e h.normal ∙ ap mean.neg (sym h.image)) (sym k.image) ∙ Laws.neg-mul elements.ring (f.apply x) (f.apply y) ∙ ap mean.neg (sym (f.apply-mul x y)))
+      let n = element_interprets.negative-valid e h.normal in (
+        element_interprets.product-valid (element.negative e) p m n k.normal is,
+        element_interprets.product-means (element.negative e) p m n k.normal is
+            ∙ ap₂ mean.mul (element_interprets.negative-means e h.normal ∙ ap mean.neg (sym h.image)) (sym k.image) ∙ Laws.neg-mul elements.ring (f.apply x) (f.apply y) ∙ ap mean.neg (sym (f.apply-mul x y)),
+      )
 
   one-term : (minus : Bool) (total e p m s : Element) (x y : A) → IsElement total → IsImage e x → IsImage p y → element.product (poly.signed element minus e) p ≡ Ok m → element.sum total m ≡ Ok s
       → IsSum minus total s (F.mul x y)
