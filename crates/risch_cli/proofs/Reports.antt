@@ -4,7 +4,7 @@ use Rattle.std.proofs.Common.{◌≡◌, ◌≢◌, ℕ, ◌≤◌, ◌<◌, Lis
 use Rattle.risch_frac.specs.Fraction.{Fraction}
 use Rattle.risch_mean.specs.Answer.{IsIntegral}
 use Rattle.risch_level.specs.Levels.{Element}
-use Rattle.risch_element_theory.specs.WholeTower.{IsElement, Within}
+use Rattle.risch_element_theory.specs.WholeTower.{IsElement, Within, meaning}
 use Rattle.risch_elem.specs.declared.units.Stop.{Stop}
 use Rattle.risch_elem.specs.declared.units.Stop.TheVariants.{Overflow, Size, Case, NotSound, Budget}
 use Rattle.risch_tower.specs.TowerMeaning.{monomials}

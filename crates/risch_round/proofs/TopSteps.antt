@@ -6,7 +6,7 @@ use Rattle.risch_mean.specs.Answer.{IsIntegral}
 use Rattle.risch_level.specs.Levels.{Element}
 use Rattle.risch_tower.specs.declared.level.Level.{Level}
 use Rattle.risch_cert.specs.declared.answer.Answer.{Answer}
-use Rattle.risch_cert.specs.declared.answer.Answer.TheVariants.{Integral, Stopped, Disagree}
+use Rattle.risch_cert.specs.declared.answer.Answer.TheVariants.{Integral, Refuted, Stopped, Disagree}
 use Rattle.risch_rootsum.specs.DerivativeMeaning.{answer_of}
 use Rattle.risch_round.specs.Meaning.{IsPolynomialInX}
 use Rattle.risch_round.specs.Procedure.{answer}
@@ -15,6 +15,7 @@ use Rattle.risch_round.proofs.ProcedureMeaning.{answer-integral}
 
 found : (budget : ℕ) (e : Element) (p : List Fraction) (a : Answer) → IsPolynomialInX e p → answer budget p ≡ a → IsFoundIntegral [] e a
 found budget e p (Integral it) s is = subst (IsIntegral [] (answer_of it)) (sym s.means) (answer-integral budget p it s.valid s.degree_small is)
+found budget e p (Refuted chain) s is = tt
 found budget e p (Stopped halt) s is = tt
 found budget e p (Disagree left right) s is = tt
 

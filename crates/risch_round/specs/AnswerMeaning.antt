@@ -18,12 +18,13 @@ use Rattle.risch_residue.specs.ResiduesMeaning.{AllLogParts}
 use Rattle.risch_residue.specs.declared.outcome.Residues.{Residues}
 use Rattle.risch_residue.specs.declared.outcome.Residues.TheVariants.{Constant, NotConstant}
 use Rattle.risch_cert.specs.declared.answer.Answer.{Answer}
-use Rattle.risch_cert.specs.declared.answer.Answer.TheVariants.{Integral as Found, Stopped, Disagree}
+use Rattle.risch_cert.specs.declared.answer.Answer.TheVariants.{Integral as Found, Refuted, Stopped, Disagree}
 
 -- ---- the answer
 -- an integral that is found is an integral of f
 abbrev pub IsFoundIntegral : List Level → Element → Answer → Type 0
 IsFoundIntegral tower f (Found it) = IsIntegral (monomials tower) (answer_of it) (meaning f)
+IsFoundIntegral tower f (Refuted chain) = Unit {0}
 IsFoundIntegral tower f (Stopped halt) = Unit {0}
 IsFoundIntegral tower f (Disagree left right) = Unit {0}
 
@@ -33,6 +34,7 @@ AreOther left right = (¬ (meaning left ≡ meaning right)) × (element.same lef
 
 abbrev pub IsDisagreement : Answer → Type 0
 IsDisagreement (Found it) = Unit {0}
+IsDisagreement (Refuted chain) = Unit {0}
 IsDisagreement (Stopped halt) = Unit {0}
 IsDisagreement (Disagree left right) = AreOther left right
 
