@@ -1,7 +1,7 @@
 #!/bin/sh
 # Times the built program, and the library of elements by the tables in bench/elements: bench/run.sh [OTHER]
 # It prints, for each input, the median and the least of 20 runs and the peak memory. With the path of another program
-# that takes the same words and input it prints the same of that one, and how many times its median this one's is.
+# that takes the same words and input it prints the same of that one, and how many times its median and its peak this one's are.
 # It needs python3, and /usr/bin/time for the memory: without it that column is a dash.
 top=$(cd "$(dirname "$0")/.." && pwd) || exit 1
 command -v python3 >/dev/null || {
@@ -54,6 +54,21 @@ def filled(front, piece):
     return front + piece * ((1_048_576 - len(front)) // len(piece))
 
 
+def linear(n):
+    """The reciprocal of (x-1)*..*(x-n): rational residues."""
+    return "integrate 1/(" + "*".join(f"(x-{k})" for k in range(1, n + 1)) + ")\n"
+
+
+def irrational(n):
+    """x^(n-1) over x^n - 2: irrational roots, one residue."""
+    return f"integrate x^{n - 1}/(x^{n}-2)\n"
+
+
+def repeated(n):
+    """The reciprocal of (x*(x+1))^n: repeated factors."""
+    return f"integrate 1/(x*(x+1))^{n}\n"
+
+
 ROOT_SUM = "integrate 1/(x^2+1)\nintegral\npart 0\nsum z^2+1/4 of 2*z+x\nend\n"
 
 INPUTS = [
@@ -66,6 +81,9 @@ INPUTS = [
     ("1 MiB of +x", ["integrate"], filled("integrate x", "+x")),
     ("1 MiB of comment lines", ["integrate"], filled("", "# a comment\n")),
     ("a root sum is checked", ["check"], ROOT_SUM),
+    *((f"1/((x-1)..(x-{n}))", ["integrate"], linear(n)) for n in (2, 4, 6, 8)),
+    *((f"x^{n - 1}/(x^{n}-2)", ["integrate"], irrational(n)) for n in (2, 4, 8, 12)),
+    *((f"1/(x*(x+1))^{n}", ["integrate"], repeated(n)) for n in (2, 4, 8)),
 ]
 
 
@@ -97,25 +115,27 @@ def measured(program, words, text):
     return statistics.median(seconds), min(seconds), peak(command, text), runs[0][1]
 
 
-def row(name, figures, ratio=None):
+def row(name, figures, ratio=None, memory_ratio=None):
     median, least, memory, status = figures
     memory = "-" if memory is None else f"{memory:,}"
     last = "" if ratio is None else f"{ratio:>10.4f}"
+    last += "" if memory_ratio is None else f"{memory_ratio:>14.4f}"
     print(f"{name:<24}{status:>7}{1000 * median:>12.2f}{1000 * least:>12.2f}{memory:>12}{last}")
 
 
-def head(name, ratio=""):
-    print(f"{name:<24}{'status':>7}{'median ms':>12}{'least ms':>12}{'peak KiB':>12}{ratio:>10}".rstrip())
+def head(name, ratio="", memory_ratio=""):
+    print(f"{name:<24}{'status':>7}{'median ms':>12}{'least ms':>12}{'peak KiB':>12}{ratio:>10}{memory_ratio:>14}".rstrip())
 
 
 def main(program, rows, folder, *others):
-    head("input", "ratio" if others else "")
+    head("input", *(("ratio", "memory ratio") if others else ()))
     for name, words, text in INPUTS:
         here = measured(program, words, text)
         row(name, here)
         for other in others:
             there = measured(other, words, text)
-            row("  " + os.path.basename(other), there, here[0] / there[0])
+            memory_ratio = here[2] / there[2] if here[2] and there[2] else None
+            row("  " + os.path.basename(other), there, here[0] / there[0], memory_ratio)
     print()
     head("table of elements")
     for name, table in tables(folder):

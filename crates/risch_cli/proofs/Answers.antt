@@ -8,7 +8,7 @@ use Rattle.risch_elem.specs.declared.units.Stop.{Stop}
 use Rattle.risch_elem.specs.declared.units.Stop.TheVariants.{Overflow, Size, Case, NotSound, Budget}
 use Rattle.risch_cert.specs.declared.answer.Answer.{Answer}
 use Rattle.risch_cert.specs.declared.answer.Answer.TheVariants.{Integral, Refuted, Stopped, Disagree}
-use Rattle.risch_cert.specs.Answers.{print_integral}
+use Rattle.risch_cert.specs.Answers.{print_integral, print_disagreement}
 use Rattle.risch_chain_end.specs.Verdict.{Verdict, accepted, refused, stopped}
 use Rattle.risch_check.specs.Checked.{checked}
 use Rattle.risch_text.specs.Read.{read_problem}
@@ -24,7 +24,7 @@ use Rattle.risch_words.specs.declared.request.Request.{Request}
 use Rattle.risch_cli.specs.declared.report.Report.{Report}
 use Rattle.risch_cli.specs.Saying.{said_to, requested, unless_long, too_long, status_of, answer_status, answer_in_x, answered, problem_report, integrated, judged, certified}
 use Rattle.risch_cli.specs.Truth.{AsksFor, HasSmallProblem, IsReported}
-use Rattle.risch_cli.specs.Telling.{IsSaid, IsAnswer, IsTold, TellsIntegral, TellsAccepted, HasSmallIntegrand}
+use Rattle.risch_cli.specs.Telling.{IsSaid, IsAnswer, IsTold, TellsIntegral, TellsDisagreement, TellsAccepted, HasSmallIntegrand}
 
 -- ---- the status of what is said is neither that of a read fault nor that of a write fault
 pub record IsNoFault (code : ℕ) : Type 0 where
@@ -113,6 +113,14 @@ tells_integral words left out_old out_new report text r asks zero same told =
       printed = subst (λ (t : List ℕ). Appends out_old out_new t) whole told;
     }
 
+-- Out took two elements that are other ones.
+pub tells_disagreement : (words : List (List ℕ)) (left out_old out_new : Option (List ℕ)) (report : Report) (text : List ℕ) →
+    IsReported words left report → AsksFor words Integrate → report.status ≡ 11 → text ≡ report.out → Appends out_old out_new text → TellsDisagreement out_old out_new
+tells_disagreement words left out_old out_new report text r asks eleven same told =
+    let prints = r.is_true.disagree asks eleven in
+    let whole : text ≡ print_disagreement prints.left prints.right = same ∙ prints.printed in
+    record { left = prints.left; right = prints.right; other = prints.other; printed = subst (λ (t : List ℕ). Appends out_old out_new t) whole told }
+
 -- The certificate holds.
 pub tells_accepted : (words : List (List ℕ)) (left : Option (List ℕ)) (report : Report) → IsReported words left report → AsksFor words Check → report.status ≡ 0 → TellsAccepted left
 tells_accepted words left report r asks zero = record { bytes = r.bytes; all = r.all; holds = r.is_true.accepted asks zero }
@@ -142,6 +150,12 @@ read_fault-not_zero code told zero = let e : code ≡ 8 = told (λ n. absurd (om
 
 pub read_fault-no_answer : (code : ℕ) → (code ≢ 9 → code ≡ 8) → IsAnswer code → ⊥
 read_fault-no_answer code told a = a.not_read_fault (told a.not_write_fault)
+
+pub read_fault-not_eleven : (code : ℕ) → (code ≢ 9 → code ≡ 8) → code ≡ 11 → ⊥
+read_fault-not_eleven code told eleven = let e : code ≡ 8 = told (λ n. absurd (omega arith)) in omega arith
+
+pub memory-not_eleven : (code : ℕ) → (code ≢ 9 → code ≡ 10) → code ≡ 11 → ⊥
+memory-not_eleven code told eleven = let e : code ≡ 10 = told (λ n. absurd (omega arith)) in omega arith
 
 pub memory-not_zero : (code : ℕ) → (code ≢ 9 → code ≡ 10) → code ≡ 0 → ⊥
 memory-not_zero code told zero = let e : code ≡ 10 = told (λ n. absurd (omega arith)) in omega arith

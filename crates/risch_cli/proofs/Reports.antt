@@ -40,11 +40,11 @@ use Rattle.risch_text.specs.declared.certified.ReadCertified.TheVariants as cert
 use Rattle.risch_cli.specs.declared.report.Report.{Report}
 use Rattle.risch_round.specs.Elements.{coefficients}
 use Rattle.risch_round.specs.Meaning.{IsSmall}
-use Rattle.risch_round.specs.AnswerMeaning.{IsFoundIntegral}
+use Rattle.risch_round.specs.AnswerMeaning.{IsFoundIntegral, IsDisagreement}
 use Rattle.risch_round.specs.RationalFunctions.{answer, answer_by}
 use Rattle.risch_round.proofs.ElementsInX.{coefficients-stand}
 use Rattle.risch_cli.specs.Saying.{on_out, not_yet, status_of, answer_status, report_of, check_status, integrand_in_x, answer_in_x, answered, problem_report, integrated, judged, certified}
-use Rattle.risch_cli.specs.Truth.{PrintsIntegral, IsSmallProblem, ReportsProblem, ReportsProblemFile, IsRight, ReportsCertificate, ReportsCertificateFile}
+use Rattle.risch_cli.specs.Truth.{PrintsIntegral, PrintsDisagreement, IsSmallProblem, ReportsProblem, ReportsProblemFile, IsRight, ReportsCertificate, ReportsCertificateFile}
 use Rattle.risch_round.proofs.SmallIntegrands.{small-integral}
 
 -- what holds of a value holds of what follows from it
@@ -59,6 +59,14 @@ stop-not_zero Size e = omega arith
 stop-not_zero (Case case) e = omega arith
 stop-not_zero (NotSound element) e = omega arith
 stop-not_zero Budget e = omega arith
+
+-- nor has one the status 11
+stop-not_eleven : (stop : Stop) → status_of stop ≢ 11
+stop-not_eleven (Overflow op) e = omega arith
+stop-not_eleven Size e = omega arith
+stop-not_eleven (Case case) e = omega arith
+stop-not_eleven (NotSound element) e = omega arith
+stop-not_eleven Budget e = omega arith
 
 -- ---- problems
 empty : (levels : List Level) → length levels ≤ 0 → levels ≡ []
@@ -79,6 +87,7 @@ unfolding problem_report
 problem-higher budget p report h e = record {
   said = e ∙ ap answered (sym (unserved budget p.tower p.integrand h));
   integral = λ zero. absurd (let thirteen = ap (λ r. r.status) e in omega arith);
+  disagree = λ eleven. absurd (let thirteen = ap (λ r. r.status) e in omega arith);
   small = λ enough small. absurd (no_polynomial p.tower p.integrand small.polynomial h small.is);
 }
 
@@ -90,6 +99,13 @@ prints p (Refutation chain) found zero = absurd (omega arith)
 prints p (Stopped halt) found zero = absurd (stop-not_zero halt.stop zero)
 prints p (Disagree left right) found zero = absurd (omega arith)
 
+tells_apart : (a : Answer) → IsDisagreement a → answer_status a ≡ 11 → PrintsDisagreement (print_answer a)
+unfolding print_answer
+tells_apart (Integral it) other eleven = absurd (omega arith)
+tells_apart (Refutation chain) other eleven = absurd (omega arith)
+tells_apart (Stopped halt) other eleven = absurd (stop-not_eleven halt.stop eleven)
+tells_apart (Disagree left right) other eleven = record { left = left; right = right; other = other; printed = refl }
+
 -- a polynomial with small coefficients is answered by its integral
 small_answer : (budget : ℕ) (e : Element) (f : List Fraction) → 512 ≤ budget → IsElement e → Within 1 e → coefficients e ≡ Some f → IsSmall f → answer_status (answer budget e) ≡ 0
 unfolding answer
@@ -100,13 +116,14 @@ small_answer budget e f enough valid within is small =
 
 -- a rational function in x
 pub problem-answered : (budget : ℕ) (p : ProblemValue) (a : Answer) (report : Report) → length p.tower ≤ 0 → IsElement p.integrand → Within 1 p.integrand → a ≡ answer budget p.integrand →
-    IsFoundIntegral p.tower p.integrand a → report ≡ report_of a → ReportsProblem budget p report
+    IsFoundIntegral p.tower p.integrand a → IsDisagreement a → report ≡ report_of a → ReportsProblem budget p report
 unfolding problem_report
-problem-answered budget p a report h valid within is found e =
+problem-answered budget p a report h valid within is found other e =
     let none : p.tower ≡ [] = empty p.tower h in
     record {
       said = e ∙ ap report_of is ∙ ap (λ levels. answered (answer_in_x budget levels p.integrand)) (sym none);
       integral = λ zero. subst (PrintsIntegral p) (sym (ap (λ r. r.out) e)) (prints p a found (sym (ap (λ r. r.status) e) ∙ zero));
+      disagree = λ eleven. subst PrintsDisagreement (sym (ap (λ r. r.out) e)) (tells_apart a other (sym (ap (λ r. r.status) e) ∙ eleven));
       small = λ enough small.
           let polynomial : coefficients p.integrand ≡ Some small.polynomial = ap (λ levels. integrand_in_x levels p.integrand) (sym none) ∙ small.is in
           ap (λ r. r.status) e ∙ ap answer_status is ∙ small_answer budget p.integrand small.polynomial enough valid within polynomial small.small;
@@ -118,6 +135,7 @@ pub file-problem : (budget : ℕ) (bytes : List ℕ) (p : ProblemValue) (report 
 file-problem budget bytes p report read written r = record {
   said = r.said ∙ ap (integrated budget) (sym read);
   integral = λ zero. record { problem = p; written = written; prints = r.integral zero };
+  disagree = r.disagree;
   small = λ enough small.
       let same : problem.Problem p ≡ problem.Problem small.problem = sym read ∙ small.read in
       let here : small.problem ≡ p = cc in
@@ -126,27 +144,28 @@ file-problem budget bytes p report read written r = record {
 
 -- what is no problem
 file-other : (budget : ℕ) (bytes : List ℕ) (read : ReadProblem) (report : Report) → read_problem bytes ≡ read → ((p : ProblemValue) → ¬ (read ≡ problem.Problem p)) →
-    report ≡ integrated budget read → report.status ≢ 0 → ReportsProblemFile budget bytes report
-file-other budget bytes read report is other e some = record {
+    report ≡ integrated budget read → report.status ≢ 0 → report.status ≢ 11 → ReportsProblemFile budget bytes report
+file-other budget bytes read report is other e some same = record {
   said = e ∙ ap (integrated budget) (sym is);
   integral = λ zero. absurd (some zero);
+  disagree = λ eleven. absurd (same eleven);
   small = λ enough small. absurd (other small.problem (sym is ∙ small.read));
 }
 
 pub file-syntax : (budget : ℕ) (bytes : List ℕ) (at : ℕ) (cause : Cause) (report : Report) → read_problem bytes ≡ problem.Syntax at cause → report ≡ integrated budget (problem.Syntax at cause) →
     ReportsProblemFile budget bytes report
 file-syntax budget bytes at cause report is e =
-    file-other budget bytes (problem.Syntax at cause) report is (λ p f. cc) e (λ zero. let three = ap (λ r. r.status) e in omega arith)
+    file-other budget bytes (problem.Syntax at cause) report is (λ p f. cc) e (λ zero. let three = ap (λ r. r.status) e in omega arith) (λ eleven. let three = ap (λ r. r.status) e in omega arith)
 
 pub file-refused : (budget : ℕ) (bytes : List ℕ) (at : ℕ) (cause : Refusal) (report : Report) → read_problem bytes ≡ problem.Refused at cause → report ≡ integrated budget (problem.Refused at cause) →
     ReportsProblemFile budget bytes report
 file-refused budget bytes at cause report is e =
-    file-other budget bytes (problem.Refused at cause) report is (λ p f. cc) e (λ zero. let three = ap (λ r. r.status) e in omega arith)
+    file-other budget bytes (problem.Refused at cause) report is (λ p f. cc) e (λ zero. let three = ap (λ r. r.status) e in omega arith) (λ eleven. let three = ap (λ r. r.status) e in omega arith)
 
 pub file-stopped : (budget : ℕ) (bytes : List ℕ) (stop : Stop) (report : Report) → read_problem bytes ≡ problem.Stopped stop → report ≡ integrated budget (problem.Stopped stop) →
     ReportsProblemFile budget bytes report
 file-stopped budget bytes stop report is e =
-    file-other budget bytes (problem.Stopped stop) report is (λ p f. cc) e (λ zero. stop-not_zero stop (sym (ap (λ r. r.status) e) ∙ zero))
+    file-other budget bytes (problem.Stopped stop) report is (λ p f. cc) e (λ zero. stop-not_zero stop (sym (ap (λ r. r.status) e) ∙ zero)) (λ eleven. stop-not_eleven stop (sym (ap (λ r. r.status) e) ∙ eleven))
 
 -- ---- certificates
 -- a certificate of the form that the reader gives has that which the check needs

@@ -10,7 +10,7 @@ use Rattle.risch_tower.specs.TowerMeaning.{monomials}
 use Rattle.risch_tower.specs.declared.level.Level.{Level}
 use Rattle.risch_rootsum.specs.DerivativeMeaning.{answer_of}
 use Rattle.risch_rootsum.specs.declared.integral.Integral.{Integral}
-use Rattle.risch_cert.specs.Answers.{print_integral}
+use Rattle.risch_cert.specs.Answers.{print_integral, print_disagreement}
 use Rattle.risch_cert.specs.declared.answer.Certificate.{Certificate}
 use Rattle.risch_cert.specs.declared.answer.Certificate.TheVariants.{Integral as Claimed, Refuted}
 use Rattle.risch_check.specs.Certificates.{chain_of}
@@ -26,6 +26,7 @@ use Rattle.risch_words.specs.declared.request.Command.{Command}
 use Rattle.risch_words.specs.declared.request.Command.TheVariants.{Integrate, Check}
 use Rattle.risch_words.specs.declared.request.Request.{Request}
 use Rattle.risch_cli.specs.declared.report.Report.{Report}
+use Rattle.risch_round.specs.AnswerMeaning.{AreOther}
 use Rattle.risch_round.specs.Meaning.{IsSmall}
 use Rattle.risch_cli.specs.Saying as saying
 use Rattle.risch_cli.specs.Saying.{integrand_in_x, problem_report, integrated, judged, certified}
@@ -41,6 +42,13 @@ pub record AnswersProblem (bytes text : List ℕ) : Type 0 where
   pub problem : ProblemValue
   pub written : IsWritten bytes problem
   pub prints : PrintsIntegral problem text
+
+-- the text tells two elements apart, and they are other ones
+pub record PrintsDisagreement (text : List ℕ) : Type 0 where
+  pub left : Element
+  pub right : Element
+  pub other : AreOther left right
+  pub printed : text ≡ print_disagreement left right
 
 -- What the certificate claims of the integrand in the tower is true: that it is an integral; or, where it is a refutation, that its chain reduces the integrand exactly, with an end that is read off its rest.
 abbrev pub IsRight : List Level → Element → Certificate → Type 0
@@ -67,16 +75,18 @@ pub record HasSmallProblem (bytes : List ℕ) : Type 0 where
   pub small : IsSmallProblem problem
 
 -- ---- reports on files
--- The report on a problem: what is said; a text with status 0 is the print of an integral; and the status of a small problem is 0, where the budget is enough.
+-- The report on a problem: what is said; a text with status 0 is the print of an integral, one with status 11 that of two elements that are other ones; and the status of a small problem is 0, where the budget is enough.
 pub record ReportsProblem (budget : ℕ) (p : ProblemValue) (report : Report) : Type 0 where
   pub said : report ≡ problem_report budget p
   pub integral : report.status ≡ 0 → PrintsIntegral p report.out
+  pub disagree : report.status ≡ 11 → PrintsDisagreement report.out
   pub small : 512 ≤ budget → IsSmallProblem p → report.status ≡ 0
 
 -- the same of the file of a problem
 pub record ReportsProblemFile (budget : ℕ) (bytes : List ℕ) (report : Report) : Type 0 where
   pub said : report ≡ integrated budget (read_problem bytes)
   pub integral : report.status ≡ 0 → AnswersProblem bytes report.out
+  pub disagree : report.status ≡ 11 → PrintsDisagreement report.out
   pub small : 512 ≤ budget → HasSmallProblem bytes → report.status ≡ 0
 
 -- the report on a problem with a certificate: what is said; and the status is 0 only where what it claims is true
@@ -110,6 +120,7 @@ pub record AsksWithBudget (words : List (List ℕ)) : Type 0 where
 -- what is true of a report on a file
 pub record IsTrueOf (words : List (List ℕ)) (bytes : List ℕ) (report : Report) : Type 0 where
   pub integral : AsksFor words Integrate → report.status ≡ 0 → AnswersProblem bytes report.out
+  pub disagree : AsksFor words Integrate → report.status ≡ 11 → PrintsDisagreement report.out
   pub accepted : AsksFor words Check → report.status ≡ 0 → HoldsCertificate bytes
   pub small : AsksWithBudget words → length bytes ≤ 1048576 → HasSmallProblem bytes → report.status ≡ 0
 

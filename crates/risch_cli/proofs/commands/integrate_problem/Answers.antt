@@ -23,4 +23,4 @@ returns c =
     let within : Within 1 p.integrand = subst (λ n. Within n p.integrand) one c.is_kept.ensures in
     let is : a ≡ answer c.args.budget p.integrand = c.in_ok-answer.ensures.rule ∙ ap (λ (p : ProblemValue). answer c.args.budget p.integrand) c.problem.view_is in
     let found : IsFoundIntegral p.tower p.integrand a = subst (λ (p : ProblemValue). IsFoundIntegral p.tower p.integrand a) c.problem.view_is c.in_ok-answer.ensures.integral in
-    if_ok _ _ _ (λ report e. problem-answered c.args.budget p a report low valid within is found e) c.of_answer.ensures
+    if_ok _ _ _ (λ report e. problem-answered c.args.budget p a report low valid within is found c.in_ok-answer.ensures.disagree e) c.of_answer.ensures
