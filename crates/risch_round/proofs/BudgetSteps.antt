@@ -1,6 +1,6 @@
 -- A call that counts units from 0 with a most gives what its rule gives within that budget, and is never left where no leaves are counted.
-use Rattle.std.specs.Prelude.{IfOk, nat_lt, if◌then◌else◌}
-use Rattle.std.proofs.Common.{◌≡◌, ℕ, ◌+◌, ◌≤◌, ◌<◌, ◌⊎◌, inl, inr, true, false, Result, Ok, Err, refl, sym, ◌∙◌, ap, arith}
+use Rattle.std.specs.Prelude.{IfOk, nat_lt}
+use Rattle.std.proofs.Common.{◌≡◌, ℕ, ◌≤◌, ◌⊎◌, inl, inr, true, false, Result, Ok, Err, sym, ap, arith}
 use Rattle.std.proofs.lemmas.Bool.{lt-ltb, le-ltb}
 use Rattle.risch_elem.specs.declared.units.Run.{Run}
 use Rattle.risch_elem.specs.Runs.{OnLeft, Rose}

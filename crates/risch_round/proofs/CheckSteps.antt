@@ -1,6 +1,6 @@
 -- An integral that is formed over the empty tower has a derivative.
 use Rattle.std.specs.Prelude.{All}
-use Rattle.std.proofs.Common.{◌≡◌, ℕ, ◌+◌, List, [], length, refl, sym, subst}
+use Rattle.std.proofs.Common.{◌≡◌, ◌+◌, List, [], length, refl, sym, subst}
 use Rattle.risch_mean.specs.Element as mean
 use Rattle.risch_mean.specs.Element.{◌+ₑ◌}
 use Rattle.risch_mean.specs.Tower.{derive_in}

@@ -1,6 +1,5 @@
 -- Steps of a rule with stops at their steps.
-use Rattle.std.proofs.Common.{◌≡◌, Result, Ok, Err, refl}
-use Rattle.risch_run.specs.Ruled.{Ruled, IsResult}
+use Rattle.std.proofs.Common.{Result, Ok, Err, refl}
 use Rattle.risch_round.specs.declared.halted.HaltFault.{HaltFault}
 use Rattle.risch_round.specs.declared.halted.HaltFault.TheVariants.{Halted as HaltedAt, Memory}
 use Rattle.risch_round.specs.Halts.{Halted, and_halted, IsHalted}

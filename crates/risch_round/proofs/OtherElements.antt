@@ -1,7 +1,7 @@
 -- Polynomials in x with other coefficients are other elements.
-use Rattle.std.specs.Prelude.{◌&&◌, nat_eq, IsTrue}
+use Rattle.std.specs.Prelude.{◌&&◌, nat_eq}
 use Rattle.std.specs.Ordering.{int_eq}
-use Rattle.std.proofs.Common.{◌≡◌, Bool, true, false, List, [], ◌∷◌, pos, refl, sym, ◌∙◌, ap}
+use Rattle.std.proofs.Common.{◌≡◌, Bool, true, false, List, [], ◌∷◌, pos, refl, sym, ap}
 use Rattle.std.proofs.lemmas.Bool.{cond_both}
 use Rattle.std.proofs.lemmas.Bool.Decides.{Decides-int_eq}
 use Rattle.risch_frac.specs.Fraction.{Fraction}
@@ -9,7 +9,7 @@ use Rattle.risch_frac.specs.Fraction as fraction
 use Rattle.risch_field.specs.Ground.{ground}
 use Rattle.risch_polynomial.specs.Poly as poly
 use Rattle.risch_level.specs.Levels.{element}
-use Rattle.risch_element_theory.specs.WholeTower.{IsElement, meaning}
+use Rattle.risch_element_theory.specs.WholeTower.{IsElement}
 use Rattle.risch_element_theory.proofs.ElementLaws.{same-told}
 use Rattle.risch_round.specs.Elements.{element_of}
 use Rattle.risch_round.specs.AnswerMeaning.{AreOther}

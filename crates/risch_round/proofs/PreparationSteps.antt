@@ -6,7 +6,7 @@ use Rattle.risch_element_theory.specs.WholeTower.{Within}
 use Rattle.risch_tower.specs.declared.level.Level.{Level}
 use Rattle.risch_hermite.specs.HermiteMeaning.{IsHermiteReduction}
 use Rattle.risch_hermite.specs.declared.reduction.Hermite.{Hermite}
-use Rattle.risch_round.specs.AnswerMeaning.{IsPrepared, IsSimple}
+use Rattle.risch_round.specs.AnswerMeaning.{IsPrepared}
 
 zero_told : element.is_zero element.zero ≡ true
 unfolding element

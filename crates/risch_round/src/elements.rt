@@ -1,5 +1,7 @@
 //! Polynomials in x over the fractions, as elements of the tower and back.
-ghost use Rattle.std.specs.Prelude.{◌≡◌, map, IfOk, IfSome};
+ghost use Rattle.std.specs.Prelude.{◌≡◌, ◌≤◌, length, map, IfOk, IfSome};
+ghost use Rattle.risch_field.specs.Ground.{ground};
+ghost use Rattle.risch_polynomial.specs.Poly as poly;
 ghost use Rattle.risch_level.specs.Accessors.{number};
 ghost use Rattle.risch_element_theory.specs.WholeTower.{Within};
 ghost use Rattle.risch_round.specs.Elements as spec;
@@ -63,6 +65,18 @@ fn numbers(alloc: Global, fractions: &[Frac]) -> Result<ElemList, AllocError>
     Ok(numbers)
 }
 
+/// The polynomial p_0 + p_1·t + .. over the elements, for fractions p_j of which the last is not 0.
+///
+/// `Err` for want of memory alone.
+fn over_elements(alloc: Global, fractions: &[Frac]) -> Result<risch_elem::Poly, AllocError>
+    requires ends_not_zero { poly.trimmed ground fractions.now ≡ fractions.now }
+    requires degree_small { length fractions.now ≤ 256 }
+    ensures { IfOk result (λ it. it ≡ map (number 5) fractions.now) }
+{
+    let numbers = numbers(alloc, fractions)?;
+    risch_elem::Poly::of(numbers)
+}
+
 /// The element p_0 + p_1·x + ..
 ///
 /// `Err` for want of memory alone.
@@ -71,8 +85,8 @@ pub fn element_of(alloc: Global, polynomial: &Poly<Frac>) -> Result<Elem, AllocE
     ensures within { IfOk result (λ it. Within 1 it) }
 {
     let _weight = polynomial.kept_weight();
-    let numerator = risch_elem::Poly::of(numbers(alloc, polynomial.coefficients())?)?;
-    let denominator = risch_elem::Poly::of(numbers(alloc, &[Frac::one()])?)?;
+    let numerator = over_elements(alloc, polynomial.coefficients())?;
+    let denominator = over_elements(alloc, &[Frac::one()])?;
     match Elem::quotient(alloc, 0, &numerator, &denominator) {
         Ok(element) => Ok(element),
         Err(Fail::Memory) => Err(AllocError),

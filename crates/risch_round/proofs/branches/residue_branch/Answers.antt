@@ -1,4 +1,4 @@
-use Rattle.std.proofs.Common.{◌≡◌, sym, ◌∙◌}
+use Rattle.std.proofs.Common.{sym, ◌∙◌}
 use Rattle.risch_round.proofs.branches.residue_branch.Goals as goal
 
 pub residues_within-requires-clause-simple : goal.residues_within-requires-clause-simple

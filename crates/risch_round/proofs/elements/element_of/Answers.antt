@@ -1,76 +1,58 @@
 use Rattle.std.specs.Prelude.{map}
-use Rattle.std.proofs.Common.{◌≡◌, [], ◌∷◌, Ok, refl, sym, ◌∙◌, ap, ap₂, arith}
+use Rattle.std.proofs.Common.{◌≡◌, ◌≤◌, List, [], ◌∷◌, length, Ok, refl, sym, ◌∙◌, ap, ap₂, arith}
+use Rattle.risch_frac.specs.Fraction.{Fraction}
 use Rattle.risch_field.specs.Ground.{ground}
-use Rattle.risch_polynomial.specs.Poly as poly
-use Rattle.risch_level.specs.Levels.{element}
+use Rattle.risch_level.specs.Levels.{Element}
 use Rattle.risch_level.specs.Accessors.{number}
 use Rattle.risch_level.specs.Parts.{levels}
+use Rattle.risch_polynomial.specs.Poly as poly
 use Rattle.risch_round.specs.Elements.{element_of}
-use Rattle.risch_round.proofs.Numbers.{trimmed-elements, degree-elements, weight-elements, elements-within}
+use Rattle.risch_round.proofs.Numbers.{elements-within}
 use Rattle.risch_round.proofs.ElementsInX.{element-formed, no_overflow, no_size}
 use Rattle.risch_round.proofs.elements.element_of.Goals as goal
 
-pub of-requires-clause-degree : goal.of-requires-clause-degree
-of-requires-clause-degree c =
-    rw (c.in_ok-numbers.ensures, c.coefficients.ensures.value)
-    (degree-elements c.args.polynomial.now c.kept_weight-weight.ensures.ends_not_zero c.kept_weight-weight.ensures.degree_small)
+pub over_elements-requires-clause-ends_not_zero : goal.over_elements-requires-clause-ends_not_zero
+over_elements-requires-clause-ends_not_zero c = rw c.coefficients.ensures.value c.kept_weight-weight.ensures.ends_not_zero
 
-pub of-requires-clause-weight : goal.of-requires-clause-weight
-of-requires-clause-weight c =
-    rw (c.in_ok-numbers.ensures, c.coefficients.ensures.value) (weight-elements c.args.polynomial.now c.kept_weight-weight.ensures.degree_small)
+pub over_elements-requires-clause-degree_small : goal.over_elements-requires-clause-degree_small
+over_elements-requires-clause-degree_small c = rw c.coefficients.ensures.value c.kept_weight-weight.ensures.degree_small
 
-pub of-requires-2-clause-weight : goal.of-requires-2-clause-weight
-of-requires-2-clause-weight c = rw c.in_ok-numbers-2.ensures (weight-elements (c.one.result ∷ []) (omega arith))
+pub over_elements-requires-2-clause-ends_not_zero : goal.over_elements-requires-2-clause-ends_not_zero
+over_elements-requires-2-clause-ends_not_zero c = rw c.one.ensures.value refl
 
 pub quotient-requires-clause-some : goal.quotient-requires-clause-some
-quotient-requires-clause-some c =
-    let d : c.in_ok-denominator.denominator ≡ map (number 5) (ground.one ∷ []) =
-    c.in_ok-denominator.ensures.rule ∙ ap (poly.trimmed element) (c.in_ok-numbers-2.ensures ∙ ap (λ q. map (number 5) (q ∷ [])) c.one.ensures.value) ∙ trimmed-elements (ground.one ∷ []) refl in
-    rw d (omega arith)
+quotient-requires-clause-some c = rw c.in_ok-denominator.ensures (omega arith)
 
 pub quotient-requires-clause-num_within : goal.quotient-requires-clause-num_within
-quotient-requires-clause-num_within c =
-    let n : c.in_ok-numerator.numerator ≡ map (number 5) c.args.polynomial.now =
-    c.in_ok-numerator.ensures.rule ∙ ap (poly.trimmed element) (c.in_ok-numbers.ensures ∙ ap (map (number 5)) c.coefficients.ensures.value)
-    ∙ trimmed-elements c.args.polynomial.now c.kept_weight-weight.ensures.ends_not_zero in
-    rw n (elements-within 0 c.args.polynomial.now)
+quotient-requires-clause-num_within c = rw c.in_ok-numerator.ensures (elements-within 0 c.coefficients.result.now)
 
 pub quotient-requires-clause-den_within : goal.quotient-requires-clause-den_within
-quotient-requires-clause-den_within c =
-    let d : c.in_ok-denominator.denominator ≡ map (number 5) (ground.one ∷ []) =
-    c.in_ok-denominator.ensures.rule ∙ ap (poly.trimmed element) (c.in_ok-numbers-2.ensures ∙ ap (λ q. map (number 5) (q ∷ [])) c.one.ensures.value) ∙ trimmed-elements (ground.one ∷ []) refl in
-    rw d (elements-within 0 (ground.one ∷ []))
+quotient-requires-clause-den_within c = rw c.in_ok-denominator.ensures (elements-within 0 (c.one.result ∷ []))
+
+-- the quotient of what the two polynomials are
+quotient-formed : (n d : List Element) (q r : List Fraction) (one : Fraction) → q ≡ r → one ≡ ground.one → n ≡ map (number 5) q → d ≡ map (number 5) (one ∷ []) → poly.trimmed ground r ≡ r → length r ≤ 256 →
+    (levels 5).quotient 4 n d ≡ Ok (element_of r)
+quotient-formed n d q r one same one_is n_is d_is ends small =
+    ap₂ (λ a b. (levels 5).quotient 4 a b) (n_is ∙ ap (map (number 5)) same) (d_is ∙ ap (λ e. map (number 5) (e ∷ [])) one_is) ∙ element-formed r ends small
 
 pub returns-in-Ok-clause-value : goal.returns-in-Ok-clause-value
 returns-in-Ok-clause-value c =
-    let n : c.in_ok-numerator.numerator ≡ map (number 5) c.args.polynomial.now =
-    c.in_ok-numerator.ensures.rule ∙ ap (poly.trimmed element) (c.in_ok-numbers.ensures ∙ ap (map (number 5)) c.coefficients.ensures.value)
-    ∙ trimmed-elements c.args.polynomial.now c.kept_weight-weight.ensures.ends_not_zero in
-    let d : c.in_ok-denominator.denominator ≡ map (number 5) (ground.one ∷ []) =
-    c.in_ok-denominator.ensures.rule ∙ ap (poly.trimmed element) (c.in_ok-numbers-2.ensures ∙ ap (λ q. map (number 5) (q ∷ [])) c.one.ensures.value) ∙ trimmed-elements (ground.one ∷ []) refl in
-    let same : Ok c.in-Ok.element ≡ Ok (element_of c.args.polynomial.now) =
-    sym c.in-Ok.ensures.rule ∙ ap₂ (λ a b. (levels 5).quotient 4 a b) n d
-    ∙ element-formed c.args.polynomial.now c.kept_weight-weight.ensures.ends_not_zero c.kept_weight-weight.ensures.degree_small in
+    let formed =
+    quotient-formed c.in_ok-numerator.numerator c.in_ok-denominator.denominator c.coefficients.result.now c.args.polynomial.now c.one.result c.coefficients.ensures.value c.one.ensures.value
+    c.in_ok-numerator.ensures c.in_ok-denominator.ensures c.kept_weight-weight.ensures.ends_not_zero c.kept_weight-weight.ensures.degree_small in
+    let same : Ok c.in-Ok.element ≡ Ok (element_of c.args.polynomial.now) = sym c.in-Ok.ensures.rule ∙ formed in
     cc
 
 pub unreachable-requires : goal.unreachable-requires
 unreachable-requires c =
-    let n : c.in_ok-numerator.numerator ≡ map (number 5) c.args.polynomial.now =
-    c.in_ok-numerator.ensures.rule ∙ ap (poly.trimmed element) (c.in_ok-numbers.ensures ∙ ap (map (number 5)) c.coefficients.ensures.value)
-    ∙ trimmed-elements c.args.polynomial.now c.kept_weight-weight.ensures.ends_not_zero in
-    let d : c.in_ok-denominator.denominator ≡ map (number 5) (ground.one ∷ []) =
-    c.in_ok-denominator.ensures.rule ∙ ap (poly.trimmed element) (c.in_ok-numbers-2.ensures ∙ ap (λ q. map (number 5) (q ∷ [])) c.one.ensures.value) ∙ trimmed-elements (ground.one ∷ []) refl in
-    no_overflow _ _ (element_of c.args.polynomial.now)
-    (ap₂ (λ a b. (levels 5).quotient 4 a b) n d ∙ element-formed c.args.polynomial.now c.kept_weight-weight.ensures.ends_not_zero c.kept_weight-weight.ensures.degree_small)
-    c.in-Err-Overflow.field-0-is c.in-Err-Overflow.ensures.rule
+    let formed =
+    quotient-formed c.in_ok-numerator.numerator c.in_ok-denominator.denominator c.coefficients.result.now c.args.polynomial.now c.one.result c.coefficients.ensures.value c.one.ensures.value
+    c.in_ok-numerator.ensures c.in_ok-denominator.ensures c.kept_weight-weight.ensures.ends_not_zero c.kept_weight-weight.ensures.degree_small in
+    no_overflow _ _ (element_of c.args.polynomial.now) formed c.in-Err-Overflow.field-0-is c.in-Err-Overflow.ensures.rule
 
 pub unreachable-requires-in-Err-Size : goal.unreachable-requires-in-Err-Size
 unreachable-requires-in-Err-Size c =
-    let n : c.in_ok-numerator.numerator ≡ map (number 5) c.args.polynomial.now =
-    c.in_ok-numerator.ensures.rule ∙ ap (poly.trimmed element) (c.in_ok-numbers.ensures ∙ ap (map (number 5)) c.coefficients.ensures.value)
-    ∙ trimmed-elements c.args.polynomial.now c.kept_weight-weight.ensures.ends_not_zero in
-    let d : c.in_ok-denominator.denominator ≡ map (number 5) (ground.one ∷ []) =
-    c.in_ok-denominator.ensures.rule ∙ ap (poly.trimmed element) (c.in_ok-numbers-2.ensures ∙ ap (λ q. map (number 5) (q ∷ [])) c.one.ensures.value) ∙ trimmed-elements (ground.one ∷ []) refl in
-    no_size _ _ (element_of c.args.polynomial.now)
-    (ap₂ (λ a b. (levels 5).quotient 4 a b) n d ∙ element-formed c.args.polynomial.now c.kept_weight-weight.ensures.ends_not_zero c.kept_weight-weight.ensures.degree_small)
-    c.in-Err-Size.field-0-is c.in-Err-Size.ensures.rule
+    let formed =
+    quotient-formed c.in_ok-numerator.numerator c.in_ok-denominator.denominator c.coefficients.result.now c.args.polynomial.now c.one.result c.coefficients.ensures.value c.one.ensures.value
+    c.in_ok-numerator.ensures c.in_ok-denominator.ensures c.kept_weight-weight.ensures.ends_not_zero c.kept_weight-weight.ensures.degree_small in
+    no_size _ _ (element_of c.args.polynomial.now) formed c.in-Err-Size.field-0-is c.in-Err-Size.ensures.rule

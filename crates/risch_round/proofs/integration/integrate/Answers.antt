@@ -1,4 +1,3 @@
-use Rattle.std.proofs.Common.{◌≡◌}
 use Rattle.risch_round.proofs.TopSteps.{polynomial-answers}
 use Rattle.risch_round.proofs.integration.integrate.Goals as goal
 
