@@ -1,4 +1,4 @@
--- The reduction begins with f = D0 + a/n.
+-- The reduction begins with f = D(0) + a/n.
 use Rattle.std.proofs.Common.{◌≡◌, ℕ, ◌+◌, List, sym, ◌∙◌, ap}
 use Rattle.risch_ring.proofs.Derivations as Derivations
 use Rattle.risch_ring.proofs.Laws as Laws
