@@ -20,9 +20,7 @@ pub fn play(
     match operands.as_slice() {
         [a] => of_one(alloc, tower, call, a, values),
         [a, b] => of_two(alloc, tower, call, a, b, values),
-        [a, at, most] if call == "hermite" => {
-            reductions::reduction(alloc, tower, a, at, most, values)
-        }
+        [a, at, most] => reductions::of_normal_part(alloc, tower, call, (a, at, most), values),
         _ => Err(Halt::cause("no such call")),
     }
 }

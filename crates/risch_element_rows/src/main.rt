@@ -51,6 +51,7 @@
 //! | `element canonical` | an element and a level; its reduced and its normal part |
 //! | `element order_at`, `value_at` | an element and a level; its order there, and its value where that is 0 |
 //! | `element hermite` | an element, a level and a number of units; g, h and the rest of its normal part, or the stop, and how many units it cost |
+//! | `element residues` | an element, a level and a number of units; of its simple part R and S in z for each logarithm, and the sum of the residues; or the power and the trace by which they are not constant; or the stop; and how many units it cost |
 //! | `polynomial quotient` | two polynomials and a level; the element |
 //! | `polynomial derive_poly` | a polynomial and the level of its variable; its derivative in the tower |
 //! | `tower height` | the number of monomials |

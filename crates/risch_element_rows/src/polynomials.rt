@@ -1,5 +1,5 @@
 // The calls of polynomials.
-use crate::conditions::{are_coefficients, is_modulus};
+use crate::conditions::is_modulus;
 use crate::halt::Halt;
 use crate::operands::{constant, elements, exponent, level, polynomials};
 use crate::reductions;
@@ -80,11 +80,7 @@ fn of_three(
 
 /// Plays the call that makes a polynomial of its coefficients.
 pub fn of(alloc: Global, operands: &str, values: &mut Values) -> Result<(), Halt> {
-    let coefficients = ElemList::from_vec(elements(alloc, operands)?);
-    if !are_coefficients(&coefficients) {
-        return Err(Halt::cause("a polynomial beyond the limits"));
-    }
-    values.polynomial(Poly::of(coefficients)?)
+    values.coefficients(ElemList::from_vec(elements(alloc, operands)?))
 }
 
 fn scale(alloc: Global, a: &Poly, by: &Poly, values: &mut Values) -> Result<(), Halt> {

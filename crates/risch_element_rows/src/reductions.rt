@@ -1,11 +1,12 @@
 // The calls that reduce polynomials and elements of a tower.
 ghost use Rattle.std.specs.Prelude.{◌≤◌, ◌<◌, ◌+◌, ℕ, length, IfOk};
 ghost use Rattle.risch_univariate.specs.Degree.{IsMonic};
+ghost use Rattle.risch_univariate.specs.SplittingFactorization.{IsNormal};
 ghost use Rattle.risch_mean.specs.ElementField.{elements};
 ghost use Rattle.risch_element_theory.specs.WholeTower.{polynomial, Within, AllWithin};
 ghost use Rattle.risch_tower.specs.TowerMeaning.{monomials};
 ghost use Rattle.risch_monomial.specs.LevelDerivation.{level_derivation};
-ghost use Rattle.risch_monomial.specs.LevelElements.{denominator_at};
+ghost use Rattle.risch_monomial.specs.LevelElements.{numerator_at, denominator_at};
 ghost use Rattle.risch_monomial.specs.NormalPolynomials.{HasNormalDivisors};
 
 use crate::conditions::{is_below, is_modulus, level_of};
@@ -14,6 +15,7 @@ use crate::operands::{constant, exponent, level};
 use crate::values::Values;
 use risch_elem::{Counter, Elem, ElemList, Poly, Run, Stop};
 use risch_hermite::hermite;
+use risch_residue::residues;
 use risch_split::{canonical, order_at, split, value_at};
 use risch_sub::{characteristic, square_free};
 use risch_tower::Tower;
@@ -108,10 +110,7 @@ pub fn splitting(
     }
     let monic = monic(alloc, a)?;
     match split(alloc, tower, level, &monic) {
-        Run::Done(split) => {
-            values.polynomial(split.normal)?;
-            values.polynomial(split.special)
-        }
+        Run::Done(split) => values.split(alloc, &split),
         other => neither(other, values),
     }
 }
@@ -126,10 +125,7 @@ pub fn canonical_parts(
 ) -> Result<(), Halt> {
     let level = level_of(a, tower_level(tower, at)?)?;
     match canonical(alloc, tower, level, a) {
-        Run::Done(parts) => {
-            values.element(parts.reduced)?;
-            values.element(parts.normal)
-        }
+        Run::Done(parts) => values.canonical(alloc, &parts),
         other => neither(other, values),
     }
 }
@@ -149,24 +145,28 @@ pub fn value(alloc: Global, a: &Elem, at: &Elem, values: &mut Values) -> Result<
     values.element(value_at(alloc, level, a)?)
 }
 
-/// The Hermite reduction of the normal part of an element, with at most so many units, and how many there are at the end.
-pub fn reduction(
+/// The Hermite reduction of the normal part of an element, or the residues of its simple part, with at most so many units, and how many there are at the end.
+pub fn of_normal_part(
     alloc: Global,
     tower: &Tower,
-    a: &Elem,
-    at: &Elem,
-    most: &Elem,
+    call: &str,
+    operands: (&Elem, &Elem, &Elem),
     values: &mut Values,
 ) -> Result<(), Halt> {
+    let (a, at, most) = operands;
     let most = exponent(most.as_num())?;
     let level = level_of(a, tower_level(tower, at)?)?;
     match canonical(alloc, tower, level, a) {
-        Run::Done(parts) => reduction_of(alloc, tower, level, &parts.normal, most, values),
+        Run::Done(parts) => match call {
+            "hermite" => reduction(alloc, tower, level, &parts.normal, most, values),
+            "residues" => residues_of(alloc, tower, level, &parts.normal, most, values),
+            _ => Err(Halt::cause("no such call")),
+        },
         other => neither(other, values),
     }
 }
 
-fn reduction_of(
+fn reduction(
     alloc: Global,
     tower: &Tower,
     level: u8,
@@ -180,11 +180,50 @@ fn reduction_of(
 {
     let mut counter = Counter::new(u64::from(most));
     match hermite(alloc, tower, level, normal, &mut counter) {
-        Run::Done(reduction) => {
-            values.element(reduction.g)?;
-            values.element(reduction.h)?;
-            values.element(reduction.rest)?;
-        }
+        Run::Done(reduction) => values.reduction(alloc, &reduction)?,
+        other => neither(other, values)?,
+    }
+    values.whole(Some(counter.count()))
+}
+
+fn residues_of(
+    alloc: Global,
+    tower: &Tower,
+    level: u8,
+    normal: &Elem,
+    most: u16,
+    values: &mut Values,
+) -> Result<(), Halt>
+    requires level { level ≤ length tower.now }
+    requires within { Within (level + 1) normal.now }
+    requires normal { HasNormalDivisors (level_derivation (monomials tower.now) level) (polynomial (denominator_at level normal.now)) }
+{
+    let mut counter = Counter::new(u64::from(most));
+    match hermite(alloc, tower, level, normal, &mut counter) {
+        Run::Done(reduction) => residues_in(alloc, tower, level, &reduction.h, most, values),
+        other => neither(other, values),
+    }
+}
+
+fn residues_in(
+    alloc: Global,
+    tower: &Tower,
+    level: u8,
+    h: &Elem,
+    most: u16,
+    values: &mut Values,
+) -> Result<(), Halt>
+    requires level { level ≤ length tower.now }
+    requires within { Within (level + 1) h.now }
+    requires proper { length (numerator_at level h.now) < length (denominator_at level h.now) }
+    requires normal { IsNormal elements (level_derivation (monomials tower.now) level) (polynomial (denominator_at level h.now)) }
+{
+    if h.is_zero() {
+        return Err(Halt::cause("an element without a simple part"));
+    }
+    let mut counter = Counter::new(u64::from(most));
+    match residues(alloc, tower, level, h, &mut counter) {
+        Run::Done(residues) => values.residues(alloc, &residues)?,
         other => neither(other, values)?,
     }
     values.whole(Some(counter.count()))

@@ -1,10 +1,15 @@
 // The values that the calls of a case give.
+use crate::conditions::are_coefficients;
 use crate::halt::Halt;
 use crate::operands::{element, polynomial};
 use risch_cert::{print_elem, print_poly_in_z};
-use risch_elem::{Elem, Poly};
+use risch_elem::{Elem, ElemList, Poly};
 use risch_frac::Frac;
+use risch_hermite::Hermite;
 use risch_io::Text;
+use risch_residue::Residues;
+use risch_rootsum::LogPart;
+use risch_split::{Canonical, Split};
 use std::alloc::{AllocError, Global};
 
 #[derive(Drop)]
@@ -108,6 +113,66 @@ impl Values {
             Some(number) => self.element(Elem::num(Frac::new(i128::from(number), 1))),
             None => self.name("none"),
         }
+    }
+
+    /// The normal and the special part.
+    pub fn split(&mut self, alloc: Global, split: &Split) -> Result<(), Halt> {
+        let copy = split.copy(alloc)?;
+        self.polynomial(copy.normal)?;
+        self.polynomial(copy.special)
+    }
+
+    /// The reduced and the normal part.
+    pub fn canonical(&mut self, alloc: Global, parts: &Canonical) -> Result<(), Halt> {
+        let copy = parts.copy(alloc)?;
+        self.element(copy.reduced)?;
+        self.element(copy.normal)
+    }
+
+    /// The three elements of a reduction.
+    pub fn reduction(&mut self, alloc: Global, reduction: &Hermite) -> Result<(), Halt> {
+        let copy = reduction.copy(alloc)?;
+        self.element(copy.g)?;
+        self.element(copy.h)?;
+        self.element(copy.rest)
+    }
+
+    /// R and S of each logarithm, and the sum of the residues; or the power and the trace by which they are not constant.
+    pub fn residues(&mut self, alloc: Global, residues: &Residues) -> Result<(), Halt> {
+        match residues {
+            Residues::Constant { logs, trace } => {
+                self.logarithms(alloc, logs.as_slice())?;
+                self.element(Elem::num(*trace))
+            }
+            Residues::NotConstant { power, trace } => {
+                self.whole(Some(u64::from(*power)))?;
+                self.element(trace.copy(alloc)?)
+            }
+        }
+    }
+
+    fn logarithms(&mut self, alloc: Global, parts: &[LogPart]) -> Result<(), Halt> {
+        for part in parts {
+            self.logarithm(alloc, part)?;
+        }
+        Ok(())
+    }
+
+    fn logarithm(&mut self, alloc: Global, part: &LogPart) -> Result<(), Halt> {
+        let mut numbers = ElemList::new(alloc);
+        for number in part.poly.as_slice() {
+            numbers.push(Elem::num(*number))?;
+        }
+        self.coefficients(numbers)?;
+        self.coefficients(part.arg.copy(alloc)?)
+    }
+
+    /// The polynomial with these coefficients from exponent 0.
+    pub fn coefficients(&mut self, coefficients: ElemList) -> Result<(), Halt> {
+        if !are_coefficients(&coefficients) {
+            return Err(Halt::cause("coefficients beyond the limits"));
+        }
+        self.polynomial(Poly::of(coefficients)?)
     }
 
     /// Whether words stand for these values, one for each.
