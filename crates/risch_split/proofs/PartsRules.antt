@@ -1,5 +1,6 @@
 -- The rule of the parts of d: it has at least as many steps as d has coefficients, and what its steps give is the rule's.
-use Rattle.std.proofs.Common.{◌≡◌, ℕ, zero, suc, ◌≤◌, ◌<◌, true, false, List, length, Result, Ok, Err, refl, sym, ap, ap₂, arith}
+use Rattle.std.specs.Prelude.{IfOk}
+use Rattle.std.proofs.Common.{◌≡◌, ℕ, zero, suc, ◌≤◌, ◌<◌, true, false, List, length, Result, Ok, Err, subst, arith}
 use Rattle.risch_field.specs.Checked.{Checked, and_then, Agrees, IsStopOf}
 use Rattle.risch_field.specs.declared.Fail.{Fail}
 use Rattle.risch_field.proofs.CheckedSteps.{stop_passes, value_passes}
@@ -10,8 +11,10 @@ use Rattle.risch_split.specs.declared.splitting.Split.{Split}
 use Rattle.risch_monomial.specs.LevelElements.{one}
 use Rattle.risch_split.specs.Splitting.{special_factor, with_factor, parts_with, parts_in}
 
-abbrev formed : List Element → List Element → Checked Split
-formed n s = Ok (record { normal = n; special = s })
+-- what holds of a value holds of the value of a call that agrees with it
+pub of_value : {A : Type 0} (P : A → Type 0) (result : Result A Fail) (a : A) → Agrees result (Ok a) → P a → IfOk result P
+of_value P (Ok b) a h p = let e : a ≡ b = cc in subst P e p
+of_value P (Err stop) a h p = tt
 
 module _ (tower : List Level) (level : ℕ) (d : List Element) (some : 0 < length d) where
   -- of one step
@@ -31,31 +34,23 @@ module _ (tower : List Level) (level : ℕ) (d : List Element) (some : 0 < lengt
     step-with result h = step-agrees result (λ m l. value_passes result (special_factor tower level d) (next m) s factor (h m l))
 
     -- S = 1
-    pub parts-ended : (split : Split) → poly.is_one element s ≡ true → split.normal ≡ d → split.special ≡ one → (steps : ℕ) → length d ≤ steps → Agrees (Ok split) (parts_in tower level steps d)
-    parts-ended split is_one n_is s_is = step-with (Ok split) (λ m l. rw is_one (ap₂ formed (sym n_is) (sym s_is)))
+    pub parts-ended : (result : Result Split Fail) → poly.is_one element s ≡ true → Agrees result (Ok (record { normal = d; special = one })) → (steps : ℕ) → length d ≤ steps → Agrees result (parts_in tower level steps d)
+    parts-ended result is_one h = step-with result (λ m l. rw is_one h)
 
     -- a stop of d quo S
-    pub quotient-stops : (stop : Fail) → poly.is_one element s ≡ false → IsStopOf stop (poly.division element d s) → (steps : ℕ) → length d ≤ steps → Agrees {A = Split} (Err stop) (parts_in tower level steps d)
-    unfolding poly.quo
+    pub quotient-stops : (stop : Fail) → poly.is_one element s ≡ false → IsStopOf stop (poly.quo element d s) → (steps : ℕ) → length d ≤ steps → Agrees {A = Split} (Err stop) (parts_in tower level steps d)
     quotient-stops stop other h = step-with (Err stop) (λ m l. rw other
-        (stop_passes stop (poly.quo element d s) (λ q. and_then (parts_in tower level m q) (with_factor tower level s)) (stop_passes stop (poly.division element d s) (λ x. Ok x.0) h)))
+        (stop_passes stop (poly.quo element d s) (λ q. and_then (parts_in tower level m q) (with_factor s)) h))
 
-    module _ (q r : List Element) (other : poly.is_one element s ≡ false) (quotient : poly.division element d s ≡ Ok (q, r)) (shorter : length q < length d) where
-      step-rest : (result : Result Split Fail) → ((m : ℕ) → length q ≤ m → Agrees result (and_then (parts_in tower level m q) (with_factor tower level s))) → (steps : ℕ) → length d ≤ steps →
+    module _ (q : List Element) (other : poly.is_one element s ≡ false) (quotient : poly.quo element d s ≡ Ok q) (shorter : length q < length d) where
+      step-rest : (result : Result Split Fail) → ((m : ℕ) → length q ≤ m → Agrees result (and_then (parts_in tower level m q) (with_factor s))) → (steps : ℕ) → length d ≤ steps →
           Agrees result (parts_in tower level steps d)
-      unfolding poly.quo
       step-rest result h = step-with result (λ m l. rw other
-          (value_passes result (poly.quo element d s) (λ q. and_then (parts_in tower level m q) (with_factor tower level s)) q (rw quotient refl) (h m (omega arith))))
+          (value_passes result (poly.quo element d s) (λ q. and_then (parts_in tower level m q) (with_factor s)) q quotient (h m (omega arith))))
 
       pub rest-stops : (stop : Fail) → ((m : ℕ) → length q ≤ m → Agrees {A = Split} (Err stop) (parts_in tower level m q)) → (steps : ℕ) → length d ≤ steps → Agrees {A = Split} (Err stop) (parts_in tower level steps d)
-      rest-stops stop h = step-rest (Err stop) (λ m l. stop_passes stop (parts_in tower level m q) (with_factor tower level s) (h m l))
+      rest-stops stop h = step-rest (Err stop) (λ m l. stop_passes stop (parts_in tower level m q) (with_factor s) (h m l))
 
-      module _ (split : Split) (rest : (m : ℕ) → length q ≤ m → Agrees (Ok split) (parts_in tower level m q)) where
-        step-product : (result : Result Split Fail) → Agrees result (with_factor tower level s split) → (steps : ℕ) → length d ≤ steps → Agrees result (parts_in tower level steps d)
-        step-product result h = step-rest result (λ m l. value_passes result (parts_in tower level m q) (with_factor tower level s) split (rest m l) h)
-
-        pub product-stops : (stop : Fail) → IsStopOf stop (poly.product element s split.special) → (steps : ℕ) → length d ≤ steps → Agrees {A = Split} (Err stop) (parts_in tower level steps d)
-        product-stops stop h = step-product (Err stop) (stop_passes stop (poly.product element s split.special) (λ special. Ok (record { normal = split.normal; special = special })) h)
-
-        pub parts-found : (parts : Split) → poly.product element s split.special ≡ Ok parts.special → parts.normal ≡ split.normal → (steps : ℕ) → length d ≤ steps → Agrees (Ok parts) (parts_in tower level steps d)
-        parts-found parts p n_is = step-product (Ok parts) (value_passes (Ok parts) (poly.product element s split.special) (λ special. Ok (record { normal = split.normal; special = special })) parts.special p (ap (λ n. formed n parts.special) (sym n_is)))
+      pub parts-found : (split : Split) → ((m : ℕ) → length q ≤ m → Agrees (Ok split) (parts_in tower level m q)) → (result : Result Split Fail) → Agrees result (with_factor s split) →
+          (steps : ℕ) → length d ≤ steps → Agrees result (parts_in tower level steps d)
+      parts-found split rest result h = step-rest result (λ m l. value_passes result (parts_in tower level m q) (with_factor s) split (rest m l) h)

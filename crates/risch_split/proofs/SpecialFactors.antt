@@ -1,9 +1,11 @@
 -- The steps of the splitting factorization: the special factor of a polynomial, and the parts of the polynomial from those of its quotient by it.
---     step-of      the values that are formed give S with gcd(d, Dd) = S·gcd(d, ∂d)
+--     derivative-gcd, partial-gcd      the common divisors that are formed
+--     gcd-divides      gcd(d, ∂d) divides gcd(d, Dd)
+--     step-of      their quotient S has gcd(d, Dd) = S·gcd(d, ∂d)
 --     rest-of      d = q·S with a monic q of lower degree, where S is not 1
 --     parts-end, parts-next      the parts of d
 --     parts-split      what parts are, where the special one is that of a sound tower
-use Rattle.std.proofs.Common.{◌≡◌, ℕ, ◌≤◌, ◌<◌, true, false, List, length, sym, ◌∙◌, ap, arith, subst, inl, inr, ◌⊎◌}
+use Rattle.std.proofs.Common.{◌≡◌, ℕ, ◌≤◌, ◌<◌, true, false, List, length, refl, sym, ◌∙◌, ap, arith, subst, inl, inr, ◌⊎◌}
 use Rattle.risch_ring.specs.CommRing.{CommRing, Derivation}
 use Rattle.risch_univariate.specs.Polynomial.{Polynomial}
 use Rattle.risch_univariate.specs.PolynomialLaws.{polynomial_ext}
@@ -31,7 +33,7 @@ use Rattle.risch_monomial.specs.LevelElements.{one}
 use Rattle.risch_monomial.specs.LevelDerivation.{level_derivation}
 use Rattle.risch_monomial.specs.NormalPolynomials.{HasNormalDivisors, IsSpecialAt}
 use Rattle.risch_split.specs.SplittingMeaning.{IsSplitting}
-use Rattle.risch_split.specs.SplittingSteps.{IsStep, AreParts}
+use Rattle.risch_split.specs.SplittingSteps.{IsGcdWithDerivative, IsGcdWithPartial, IsStep, AreParts}
 use Rattle.risch_monomial.proofs.MonicPolynomials.{elements_characteristic_zero, exact_quotient, one-stands, size-is, is_one-stands, not_one-length}
 
 abbrev R : CommRing (Polynomial elements)
@@ -50,30 +52,26 @@ formal-is p d h = polynomial_ext elements (polynomial d) (formal_derivative elem
 gcd-is : (p q g : List Element) → IsMonicGcd p q g → polynomial g ≡ Gcd.gcd elements (polynomial p) (polynomial q)
 gcd-is p q g h = Gcd.gcd_unique elements (polynomial g) (polynomial p) (polynomial q) h.1 h.0
 
-pub step-of : (tower : List Level) (level : ℕ) (d d' a p b s r : List Element) → IsMonic elements (polynomial d) →
-    polynomial d' ≡ (level_derivation (monomials tower) level).derive (polynomial d) → IsMonicGcd d d' a → IsDerivative (polynomial d) (polynomial p) → IsMonicGcd d p b → IsDivisionOf a b (s, r) →
-    IsStep tower level d s
-step-of tower level d d' a p b s r monic derived left formal right division =
-    record { is_monic = Gcd.cofactor-is_monic elements B A (record { cofactor = polynomial s; equation = exact }) left.0 right.0; equation = sym a_is ∙ exact ∙ ap (R.mul (polynomial s)) b_is }
-  where
-    A : Polynomial elements
-    A = polynomial a
+pub derivative-gcd : (tower : List Level) (level : ℕ) (d d' a : List Element) → polynomial d' ≡ (level_derivation (monomials tower) level).derive (polynomial d) → IsMonicGcd d d' a → IsGcdWithDerivative tower level d a
+derivative-gcd tower level d d' a derived h = record { is_monic = h.0; is = gcd-is d d' a h ∙ ap (Gcd.gcd elements (polynomial d)) derived }
 
-    B : Polynomial elements
-    B = polynomial b
+pub partial-gcd : (d p b : List Element) → IsDerivative (polynomial d) (polynomial p) → IsMonicGcd d p b → IsGcdWithPartial d b
+partial-gcd d p b formal h = record { is_monic = h.0; is = gcd-is d p b h ∙ ap (Gcd.gcd elements (polynomial d)) (formal-is d p formal) }
 
-    a_is : A ≡ Gcd.gcd elements (polynomial d) ((level_derivation (monomials tower) level).derive (polynomial d))
-    a_is = gcd-is d d' a left ∙ ap (Gcd.gcd elements (polynomial d)) derived
+pub gcd-divides : (tower : List Level) (level : ℕ) (d a b : List Element) → IsMonic elements (polynomial d) → IsGcdWithDerivative tower level d a → IsGcdWithPartial d b → Divides elements (polynomial b) (polynomial a)
+gcd-divides tower level d a b monic left right =
+    subst (λ x. Divides elements x (polynomial a)) (sym right.is) (subst (λ y. Divides elements (Gcd.gcd elements (polynomial d) (formal_derivative elements (polynomial d))) y) (sym left.is)
+    (Splitting.step-divides elements elements_characteristic_zero (D tower level) (polynomial d) (Gcd.monic-nonzero elements (polynomial d) monic)))
 
-    b_is : B ≡ Gcd.gcd elements (polynomial d) (formal_derivative elements (polynomial d))
-    b_is = gcd-is d p b right ∙ ap (Gcd.gcd elements (polynomial d)) (formal-is d p formal)
+pub step-of : (tower : List Level) (level : ℕ) (d a b s : List Element) → IsGcdWithDerivative tower level d a → IsGcdWithPartial d b → polynomial a ≡ polynomial s *ₚ polynomial b → IsStep tower level d s
+step-of tower level d a b s left right exact = record {
+  is_monic = Gcd.cofactor-is_monic elements (polynomial b) (polynomial a) (record { cofactor = polynomial s; equation = exact }) left.is_monic right.is_monic;
+  equation = sym left.is ∙ exact ∙ ap (R.mul (polynomial s)) right.is;
+}
 
-    divides : Divides elements B A
-    divides = subst (λ x. Divides elements x A) (sym b_is) (subst (λ y. Divides elements (Gcd.gcd elements (polynomial d) (formal_derivative elements (polynomial d))) y) (sym a_is)
-        (Splitting.step-divides elements elements_characteristic_zero (D tower level) (polynomial d) (Gcd.monic-nonzero elements (polynomial d) monic)))
-
-    exact : A ≡ R.mul (polynomial s) B
-    exact = exact_quotient elements A B (polynomial s) (polynomial r) (Gcd.monic-nonzero elements B right.0) divides division
+-- ---- a polynomial divided exactly
+pub exact-division : (a b : List Element) (d : List Element × List Element) → IsMonic elements (polynomial b) → Divides elements (polynomial b) (polynomial a) → IsDivisionOf a b d → polynomial a ≡ polynomial d.0 *ₚ polynomial b
+exact-division a b d monic h division = exact_quotient elements (polynomial a) (polynomial b) (polynomial d.0) (polynomial d.1) (Gcd.monic-nonzero elements (polynomial b) monic) h division
 
 -- ---- the quotient by it
 -- d = q·s, q is monic, and deg q < deg d
@@ -82,21 +80,18 @@ pub record IsRest (d s q : List Element) : Type 0 where
   pub is_monic : IsMonic elements (polynomial q)
   pub shorter : length q < length d
 
-step-divides : (tower : List Level) (level : ℕ) (d s : List Element) → IsStep tower level d s → Divides elements (polynomial s) (polynomial d)
+pub step-divides : (tower : List Level) (level : ℕ) (d s : List Element) → IsStep tower level d s → Divides elements (polynomial s) (polynomial d)
 step-divides tower level d s step =
     let d' = (D tower level).derive (polynomial d) in
     let g = Gcd.gcd elements (polynomial d) (formal_derivative elements (polynomial d)) in
     Divides.divides_trans elements (polynomial s) (Gcd.gcd elements (polynomial d) d') (polynomial d)
     (subst (Divides elements (polynomial s)) (sym step.equation) (Divides.divides-mul_right elements (polynomial s) g)) (Gcd.gcd-divides_left elements (polynomial d) d')
 
-pub rest-of : (tower : List Level) (level : ℕ) (d s q r : List Element) → IsPolynomial d → IsPolynomial s → IsPolynomial q → IsMonic elements (polynomial d) → IsStep tower level d s → poly.is_one element s ≡ false →
-    IsDivisionOf d s (q, r) → IsRest d s q
-rest-of tower level d s q r kd ks kq monic step other division =
+pub rest-of : (tower : List Level) (level : ℕ) (d s q : List Element) → IsPolynomial d → IsPolynomial s → IsPolynomial q → IsMonic elements (polynomial d) → IsStep tower level d s → poly.is_one element s ≡ false →
+    polynomial d ≡ polynomial q *ₚ polynomial s → IsRest d s q
+rest-of tower level d s q kd ks kq monic step other exact =
     record { equation = exact; is_monic = Gcd.cofactor-is_monic elements (polynomial s) (polynomial d) by monic step.is_monic; shorter = shorter }
   where
-    exact : polynomial d ≡ R.mul (polynomial q) (polynomial s)
-    exact = exact_quotient elements (polynomial d) (polynomial s) (polynomial q) (polynomial r) (Gcd.monic-nonzero elements (polynomial s) step.is_monic) (step-divides tower level d s step) division
-
     by : Divides elements (polynomial s) (polynomial d)
     by = record { cofactor = polynomial q; equation = exact }
 
@@ -110,9 +105,9 @@ rest-of tower level d s q r kd ks kq monic step other division =
         omega (arith, sizes, large, size_d, size_s, size_q)
 
 -- ---- the parts
-pub parts-end : (tower : List Level) (level : ℕ) (d s : List Element) (split : Split) → IsPolynomial s → IsMonic elements (polynomial d) → IsStep tower level d s → poly.is_one element s ≡ true →
-    split.normal ≡ d → split.special ≡ one → AreParts tower level d split
-parts-end tower level d s split ks monic step is_one n_is s_is = record {
+pub parts-end : (tower : List Level) (level : ℕ) (d s : List Element) → IsPolynomial s → IsMonic elements (polynomial d) → IsStep tower level d s → poly.is_one element s ≡ true →
+    AreParts tower level d (record { normal = d; special = one })
+parts-end tower level d s ks monic step is_one = record {
   factorization = record {
     normal = polynomial d;
     special = R.one;
@@ -122,8 +117,8 @@ parts-end tower level d s split ks monic step is_one n_is s_is = record {
     normal_factors = λ f i m k. Splitting.normal_of_end elements elements_characteristic_zero (D tower level) (polynomial d) some f i (polynomial s) step.equation small k;
     special_factors = λ f i m k. absurd (Irreducible.irreducible-not_unit elements f i k);
   };
-  normal_is = ap polynomial (sym n_is);
-  special_is = sym one-stands ∙ ap polynomial (sym s_is);
+  normal_is = refl;
+  special_is = sym one-stands;
 }
   where
     some : ¬ (polynomial d ≡ R.zero)

@@ -14,23 +14,29 @@ use Rattle.risch_run.specs.Ruled.{Ruled, formed, and_ruled}
 use Rattle.risch_split.specs.declared.splitting.Split.{Split}
 
 -- ---- the parts
+-- gcd(d, ∂d)
+abbrev pub gcd_with_partial : List Element → Checked (List Element)
+gcd_with_partial d = and_then (poly.partial element d) (λ p. poly.gcd element d p)
+
+-- S·s for the special part s of d quo S, with its normal part
+abbrev pub with_factor : List Element → Split → Checked Split
+with_factor s split = and_then (poly.product element s split.special) (λ special. Ok (record { normal = split.normal; special = special }))
+
 module _ (tower : List Level) (level : ℕ) where
   -- Dp
   abbrev pub derived : List Element → Checked (List Element)
   derived p = derive_polynomial element (derivative tower) (rate_at tower level) p
 
+  -- gcd(d, Dd)
+  abbrev pub gcd_with_derivative : List Element → Checked (List Element)
+  gcd_with_derivative d = and_then (derived d) (λ d'. poly.gcd element d d')
+
   -- S = gcd(d, Dd) quo gcd(d, ∂d), the product of the special irreducible factors of d, each once
   unfoldable pub special_factor : List Element → Checked (List Element)
   special_factor d =
-      and_then (derived d) (λ d'.
-      and_then (poly.gcd element d d') (λ a.
-      and_then (poly.partial element d) (λ p.
-      and_then (poly.gcd element d p) (λ b.
-      poly.quo element a b))))
-
-  -- S·s for the special part s of d quo S, with its normal part
-  abbrev pub with_factor : List Element → Split → Checked Split
-  with_factor s split = and_then (poly.product element s split.special) (λ special. Ok (record { normal = split.normal; special = special }))
+      and_then (gcd_with_derivative d) (λ a.
+      and_then (gcd_with_partial d) (λ b.
+      poly.quo element a b))
 
   -- d and 1 where S = 1, and else those parts, where `rest` splits d quo S
   abbrev pub parts_with : (List Element → Checked Split) → List Element → List Element → Checked Split

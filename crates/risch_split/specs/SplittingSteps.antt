@@ -13,6 +13,16 @@ use Rattle.risch_tower.specs.TowerMeaning.{monomials}
 use Rattle.risch_split.specs.declared.splitting.Split.{Split}
 use Rattle.risch_monomial.specs.LevelDerivation.{level_derivation}
 
+-- g is monic and g = gcd(d, Dd)
+pub record IsGcdWithDerivative (tower : List Level) (level : ℕ) (d g : List Element) : Type 0 where
+  pub is_monic : IsMonic elements (polynomial g)
+  pub is : polynomial g ≡ gcd elements (polynomial d) ((level_derivation (monomials tower) level).derive (polynomial d))
+
+-- g is monic and g = gcd(d, ∂d)
+pub record IsGcdWithPartial (d g : List Element) : Type 0 where
+  pub is_monic : IsMonic elements (polynomial g)
+  pub is : polynomial g ≡ gcd elements (polynomial d) (formal_derivative elements (polynomial d))
+
 -- s is monic, and gcd(d, Dd) = s·gcd(d, ∂d)
 pub record IsStep (tower : List Level) (level : ℕ) (d s : List Element) : Type 0 where
   pub is_monic : IsMonic elements (polynomial s)
