@@ -9,6 +9,7 @@ use Rattle.risch_monomial.specs.LevelElements.{of_polynomial, ratio, numerator_a
 use Rattle.risch_run.specs.Ruled.{Ruled, formed, and_ruled}
 use Rattle.risch_split.specs.declared.splitting.Split.{Split}
 use Rattle.risch_split.specs.declared.canonical_parts.Canonical.{Canonical}
+use Rattle.risch_split.specs.declared.canonical_parts.Divided.{Divided}
 use Rattle.risch_split.specs.Splitting.{least_exponent, splitting}
 
 -- ---- canonical parts
@@ -45,6 +46,14 @@ module _ (level : ℕ) where
       if poly.is_one element split.special then without_special q r split.normal else
       if poly.is_one element split.normal then without_normal q r split.special else
       and_then (modular.solve element split.special split.normal r) (parts_of q split)
+
+-- q and r of the numerator q·M + r with the denominator M
+abbrev pub quotient_and_rest : Divided → List Element × List Element
+quotient_and_rest d = (d.quotient, d.rest)
+
+-- the parts of q + r/M by the splitting of M
+abbrev pub parts_of_division : List Level → ℕ → Divided → Ruled Canonical
+parts_of_division tower level d = and_ruled (splitting tower level d.denominator) (λ split. formed (parts_by level d.quotient d.rest split))
 
 -- the numerator divided by the denominator, and the splitting of the denominator
 unfoldable pub canonical : List Level → ℕ → Element → Ruled Canonical

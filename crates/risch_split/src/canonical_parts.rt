@@ -4,11 +4,15 @@ ghost use Rattle.std.specs.Prelude.{◌≡◌, ◌≤◌, ◌<◌, ◌+◌, leng
 ghost use Rattle.risch_univariate.specs.Degree.{IsMonic};
 ghost use Rattle.risch_univariate.specs.Division.{IsCoprime};
 ghost use Rattle.risch_mean.specs.ElementField.{elements};
-ghost use Rattle.risch_field.specs.Checked.{Agrees};
-ghost use Rattle.risch_element_theory.specs.WholeTower.{polynomial, Within, AllWithin};
+ghost use Rattle.risch_field.specs.Checked.{Agrees, map_ok};
+ghost use Rattle.risch_polynomial.specs.Poly as rules;
+ghost use Rattle.risch_level.specs.Levels.{Element, element as operations};
+ghost use Rattle.risch_element_theory.specs.WholeTower.{IsElement, polynomial, Within, AllWithin};
+ghost use Rattle.risch_monomial.specs.LevelElements.{numerator_at, denominator_at};
 ghost use Rattle.risch_run.specs.Ruled.{IsResult, IfErrNotSound};
 ghost use Rattle.risch_split.specs.Canonical as spec;
 ghost use Rattle.risch_split.specs.SplittingMeaning.{IsNewConstant, AreCanonicalParts, IsSplitting};
+ghost use Rattle.risch_split.specs.SplittingSteps.{IsDivisionAt};
 
 use crate::splitting::{Split, splitting};
 use risch_elem::{Elem, Fail, Poly};
@@ -140,8 +144,61 @@ fn parts_by(
     Ok(Canonical { reduced, normal })
 }
 
+/// A numerator N = q·M + r over its denominator M, with deg r < deg M.
+#[derive(Drop)]
+struct Divided {
+    quotient: Poly,
+    rest: Poly,
+    denominator: Poly,
+}
+
+/// The numerator of an element at a level, divided by the denominator.
+fn division_at(alloc: Global, level: u8, of: &Elem) -> Result<Divided, Fail>
+    requires level { level < 5 }
+    requires within { Within (level + 1) of.now }
+    ensures rule { Agrees (map_ok spec.quotient_and_rest result) (rules.division operations (numerator_at level of.now) (denominator_at level of.now)) }
+    ensures meaning { IfOk result (λ it. IsDivisionAt level of.now it) }
+    ensures within { IfOk result (λ it. AllWithin level it.quotient × AllWithin level it.rest × AllWithin level it.denominator) }
+{
+    let numerator = of.num_poly(alloc, level)?;
+    let denominator = of.den_poly(alloc, level)?;
+    let (quotient, rest) = numerator.div_rem(alloc, &denominator)?;
+    let _quotient_inner = quotient.inner();
+    let _rest_inner = rest.inner();
+    Ok(Divided {
+        quotient,
+        rest,
+        denominator,
+    })
+}
+
+/// The canonical parts of q + r/M, by the splitting of M, or what ends them.
+#[tactic(auto, using(risch_run::proofs::RuledSteps::steps))]
+fn parts_of_division(
+    alloc: Global,
+    tower: &Tower,
+    level: u8,
+    division: &Divided,
+) -> Result<Canonical, Ended>
+    requires level { level ≤ length tower.now }
+    requires quotient_within { AllWithin level division.now.quotient }
+    requires rest_within { AllWithin level division.now.rest }
+    requires denominator_within { AllWithin level division.now.denominator }
+    requires monic { IsMonic elements (polynomial division.now.denominator) }
+    ensures rule { IsResult result (spec.parts_of_division tower.now level division.now) }
+    ensures meaning { (f : Element) → IsElement f → Within (level + 1) f → IsDivisionAt level f division.now → IfOk result (λ it. AreCanonicalParts tower.now level f it) }
+    ensures not_sound { IfErrNotSound result (IsNewConstant tower.now level) }
+    ensures within { IfOk result (λ it. Within (level + 1) it.reduced × Within (level + 1) it.normal) }
+{
+    level_of(tower, level);
+    let split = splitting(alloc, tower, level, &division.denominator)?;
+    let _normal_inner = split.normal.inner();
+    let _special_inner = split.special.inner();
+    let parts = parts_by(alloc, level, &division.quotient, &division.rest, &split)?;
+    Ok(parts)
+}
+
 /// The canonical parts, or what ends them.
-#[tactic(auto, using(risch_run::proofs::RuledSteps::steps), unfolding(crate::specs::Canonical::canonical))]
 pub(crate) fn canonical_parts(
     alloc: Global,
     tower: &Tower,
@@ -157,14 +214,6 @@ pub(crate) fn canonical_parts(
 {
     level_of(tower, level);
     let _nest = element.nest();
-    let numerator = element.num_poly(alloc, level)?;
-    let denominator = element.den_poly(alloc, level)?;
-    let (whole, rest) = numerator.div_rem(alloc, &denominator)?;
-    let split = splitting(alloc, tower, level, &denominator)?;
-    let _whole_inner = whole.inner();
-    let _rest_inner = rest.inner();
-    let _normal_inner = split.normal.inner();
-    let _special_inner = split.special.inner();
-    let parts = parts_by(alloc, level, &whole, &rest, &split)?;
-    Ok(parts)
+    let division = division_at(alloc, level, element)?;
+    parts_of_division(alloc, tower, level, &division)
 }
