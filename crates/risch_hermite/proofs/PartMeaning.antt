@@ -37,13 +37,16 @@ power-one (suc i) = Laws.power-suc R R.one i ∙ Laws.one-mul R (power R R.one i
 pub one-part : (w v : Polynomial elements) (i : ℕ) → v ≡ R.one → w *ₚ power R v i ≡ w *ₚ v
 one-part w v i e = ap (λ x. w *ₚ power R x i) e ∙ ap (R.mul w) (power-one i ∙ sym e)
 
--- the steps from j = i - 1 on begin with the denominator w = u·v^i, and end with u·v
-pub part-reduces : (tower : List Level) (level : ℕ) (f : mean.Element) (u v w w' : Polynomial elements) (i : ℕ) (before after : Partial) → 1 ≤ i → w ≡ u *ₚ power R v i → w' ≡ u *ₚ v →
-    (IsReducedTo tower level f (u *ₚ power R v (i - 1 + 1)) before → IsReducedTo tower level f (u *ₚ power R v 1) after) → IsReducedTo tower level f w before → IsReducedTo tower level f w' after
-part-reduces tower level f u v w w' i before after positive e e' steps h =
+-- the steps from j = i - 1 on begin with the denominator w = u·v^i
+pub part-begins : (tower : List Level) (level : ℕ) (f : mean.Element) (u v w : Polynomial elements) (i : ℕ) (before : Partial) → 1 ≤ i → w ≡ u *ₚ power R v i → IsReducedTo tower level f w before →
+    IsReducedTo tower level f (u *ₚ power R v (i - 1 + 1)) before
+part-begins tower level f u v w i before positive e h =
     let all : i ≡ i - 1 + 1 = omega arith in
-    let first = subst (λ p. IsReducedTo tower level f p before) (e ∙ ap (λ n. u *ₚ power R v n) all) h in
-    subst (λ p. IsReducedTo tower level f p after) (ap (R.mul u) (Laws.power-one R v) ∙ sym e') (steps first)
+    subst (λ p. IsReducedTo tower level f p before) (e ∙ ap (λ n. u *ₚ power R v n) all) h
+
+-- and end with u·v
+pub part-ends : (tower : List Level) (level : ℕ) (f : mean.Element) (u v w : Polynomial elements) (after : Partial) → w ≡ u *ₚ v → IsReducedTo tower level f (u *ₚ power R v 1) after → IsReducedTo tower level f w after
+part-ends tower level f u v w after e h = subst (λ p. IsReducedTo tower level f p after) (ap (R.mul u) (Laws.power-one R v) ∙ sym e) h
 
 -- w'·v^i = w·v
 pub part-denominator : (u v w w' : Polynomial elements) (i : ℕ) → w ≡ u *ₚ power R v i → w' ≡ u *ₚ v → w' *ₚ power R v i ≡ w *ₚ v

@@ -22,12 +22,33 @@ use Rattle.risch_tower.specs.declared.level.Level.{Level}
 use Rattle.risch_tower.specs.TowerMeaning.{monomials}
 use Rattle.risch_monomial.specs.LevelDerivation.{level_derivation}
 use Rattle.risch_hermite.specs.declared.partial.Partial.{Partial}
-use Rattle.risch_hermite.specs.HermiteReduction.{cofactor, steps, with_part, with_parts}
+use Rattle.risch_hermite.specs.HermiteReduction.{cofactor, steps, with_cofactor, with_part, with_parts}
 use Rattle.risch_hermite.specs.HermiteMeaning.{IsReducedTo, HasPart, ArePartsOf}
 use Rattle.risch_hermite.proofs.PartsOf.{has-part, after-part, none-left}
 
 abbrev State : Type 0
 State = Partial × List Element
+
+-- ---- the steps of a part, and the denominator that they leave
+module _ (tower : List Level) (level count : ℕ) (u v : List Element) (before : Partial) where
+  abbrev last : Partial → List Element → Counted State
+  last partial w = free (Ok (partial, w))
+
+  abbrev product : Partial → Counted State
+  product partial = and_counted (free (formed (poly.product element u v))) (last partial)
+
+  pub steps-end : (end : Ended) (n after most : ℕ) → IsCountedResult {A = Partial} (Err end) (steps tower level u v count before) n after most → IsCountedResult {A = State} (Err end) (with_cofactor tower level u v count before) n after most
+  steps-end end n after most h = end_passes {B = State} end (steps tower level u v count before) product n after most h
+
+  module _ (partial : Partial) (n after most : ℕ) (stepped : IsCountedResult (Ok partial) (steps tower level u v count before) n after most) where
+    pub product-stops : (end : Ended) (stop : Fail) → end ≡ ended_by stop → IsStopOf stop (poly.product element u v) → IsCountedResult {A = State} (Err end) (with_cofactor tower level u v count before) n after most
+    product-stops end stop e h =
+        result_passes (Err end) (steps tower level u v count before) product partial n after after most stepped (stop_ends {B = State} end stop (poly.product element u v) (last partial) after most e h)
+
+    pub cofactor-found : (w : List Element) → poly.product element u v ≡ Ok w → IsCountedResult (Ok (partial, w)) (with_cofactor tower level u v count before) n after most
+    cofactor-found w h =
+        result_passes (Ok (partial, w)) (steps tower level u v count before) product partial n after after most stepped
+        (value_goes_on (Ok (partial, w)) (poly.product element u v) (last partial) w after after most h (refl, omega arith))
 
 -- ---- one part
 module _ (tower : List Level) (level i : ℕ) (v : List Element) (before : State) where
@@ -35,34 +56,14 @@ module _ (tower : List Level) (level i : ℕ) (v : List Element) (before : State
   part-one n most one = rw one (refl, omega arith)
 
   module _ (other : poly.is_one element v ≡ false) where
-    abbrev last : Partial → List Element → Counted State
-    last partial w = free (Ok (partial, w))
-
-    abbrev product : List Element → Partial → Counted State
-    product u partial = and_counted (free (formed (poly.product element u v))) (last partial)
-
     abbrev rest : List Element → Counted State
-    rest u = and_counted (steps tower level u v (i - 1) before.0) (product u)
+    rest u = with_cofactor tower level u v (i - 1) before.0
 
     pub part-cofactor_stops : (end : Ended) (stop : Fail) (n most : ℕ) → end ≡ ended_by stop → IsStopOf stop (cofactor v i before.1) → IsCountedResult {A = State} (Err end) (with_part tower level i v before) n n most
     part-cofactor_stops end stop n most e h = rw other (stop_ends {B = State} end stop (cofactor v i before.1) rest n most e h)
 
-    module _ (u : List Element) (divided : cofactor v i before.1 ≡ Ok u) where
-      pub part-with : (result : Result State Ended) (n after most : ℕ) → IsCountedResult result (rest u) n after most → IsCountedResult result (with_part tower level i v before) n after most
-      part-with result n after most h = rw other (value_goes_on result (cofactor v i before.1) rest u n after most divided h)
-
-      pub part-steps_end : (end : Ended) (n after most : ℕ) → IsCountedResult {A = Partial} (Err end) (steps tower level u v (i - 1) before.0) n after most → IsCountedResult {A = State} (Err end) (with_part tower level i v before) n after most
-      part-steps_end end n after most h = part-with (Err end) n after most (end_passes {B = State} end (steps tower level u v (i - 1) before.0) (product u) n after most h)
-
-      module _ (partial : Partial) (n after most : ℕ) (stepped : IsCountedResult (Ok partial) (steps tower level u v (i - 1) before.0) n after most) where
-        pub part-product_stops : (end : Ended) (stop : Fail) → end ≡ ended_by stop → IsStopOf stop (poly.product element u v) → IsCountedResult {A = State} (Err end) (with_part tower level i v before) n after most
-        part-product_stops end stop e h = part-with (Err end) n after most
-            (result_passes (Err end) (steps tower level u v (i - 1) before.0) (product u) partial n after after most stepped (stop_ends {B = State} end stop (poly.product element u v) (last partial) after most e h))
-
-        pub part-found : (w : List Element) → poly.product element u v ≡ Ok w → IsCountedResult (Ok (partial, w)) (with_part tower level i v before) n after most
-        part-found w h = part-with (Ok (partial, w)) n after most
-            (result_passes (Ok (partial, w)) (steps tower level u v (i - 1) before.0) (product u) partial n after after most stepped
-            (value_goes_on (Ok (partial, w)) (poly.product element u v) (last partial) w after after most h (refl, omega arith)))
+    pub part-with : (u : List Element) → cofactor v i before.1 ≡ Ok u → (result : Result State Ended) (n after most : ℕ) → IsCountedResult result (rest u) n after most → IsCountedResult result (with_part tower level i v before) n after most
+    part-with u divided result n after most h = rw other (value_goes_on result (cofactor v i before.1) rest u n after most divided h)
 
 -- ---- the parts
 module _ (tower : List Level) (level : ℕ) (parts : List (List Element)) (start : State) (before most : ℕ) where

@@ -12,7 +12,7 @@ use Rattle.risch_run.specs.Counted.{free, and_counted, one_unit, IsCountedResult
 use Rattle.risch_run.proofs.CountedSteps.{end_passes, result_passes, value_goes_on, stop_ends}
 use Rattle.risch_tower.specs.declared.level.Level.{Level}
 use Rattle.risch_hermite.specs.declared.partial.Partial.{Partial}
-use Rattle.risch_hermite.specs.HermiteReduction.{negative_inverse, power, power_from, cofactor, multiple_of_derivative, next_sum, next_numerator, solution, step_by, step, steps}
+use Rattle.risch_hermite.specs.HermiteReduction.{negative_inverse, power, power_from, cofactor, multiple_of_derivative, solution, step_by, step, steps}
 
 -- ---- powers
 module _ (p : List Element) where
@@ -61,24 +61,10 @@ module _ (tower : List Level) (level : ℕ) (u v : List Element) (j : ℕ) (part
   unfolding step
   solution-stops stop h = stop_passes stop (solution tower level u v j partial.numerator) (step_by tower level u v j partial) h
 
-  module _ (b c : List Element) (solved : solution tower level u v j partial.numerator ≡ Ok (Some (b, c))) where
-    abbrev next : Element → Checked Partial
-    next sum = and_then (next_numerator tower level u j b c) (λ numerator. Ok (record { sum = sum; numerator = numerator }))
-
-    pub sum-stops : (stop : Fail) → IsStopOf stop (next_sum level v j partial.sum b) → IsStopOf stop (step tower level u v j partial)
-    unfolding step
-    sum-stops stop h = value_passes {B = Partial} (Err stop) (solution tower level u v j partial.numerator) (step_by tower level u v j partial) (Some (b, c)) solved (stop_passes stop (next_sum level v j partial.sum b) next h)
-
-    module _ (sum : Element) (summed : next_sum level v j partial.sum b ≡ Ok sum) where
-      step-with : (result : Result Partial Fail) → Agrees result (next sum) → Agrees result (step tower level u v j partial)
-      unfolding step
-      step-with result h = value_passes result (solution tower level u v j partial.numerator) (step_by tower level u v j partial) (Some (b, c)) solved (value_passes result (next_sum level v j partial.sum b) next sum summed h)
-
-      pub numerator-stops : (stop : Fail) → IsStopOf stop (next_numerator tower level u j b c) → IsStopOf stop (step tower level u v j partial)
-      numerator-stops stop h = step-with (Err stop) (stop_passes stop (next_numerator tower level u j b c) (λ numerator. Ok (record { sum = sum; numerator = numerator })) h)
-
-      pub step-found : (numerator : List Element) → next_numerator tower level u j b c ≡ Ok numerator → step tower level u v j partial ≡ Ok (record { sum = sum; numerator = numerator })
-      step-found numerator h = step-with (Ok (record { sum = sum; numerator = numerator })) (rw h refl)
+  pub step-solved : (solved : List Element × List Element) (result : Result Partial Fail) → solution tower level u v j partial.numerator ≡ Ok (Some solved) → Agrees result (step_by tower level u v j partial (Some solved)) →
+      Agrees result (step tower level u v j partial)
+  unfolding step
+  step-solved solved result is h = value_passes result (solution tower level u v j partial.numerator) (step_by tower level u v j partial) (Some solved) is h
 
 -- ---- the steps of a part
 module _ (tower : List Level) (level : ℕ) (u v : List Element) where

@@ -90,14 +90,18 @@ module _ (tower : List Level) (level : ℕ) where
   steps u v zero partial = free (Ok partial)
   steps u v (suc j) partial = and_counted one_unit (λ _. and_counted (free (formed (step u v (suc j) partial))) (steps u v j))
 
+  -- the steps of the part v with the cofactor u, and the denominator u·v
+  abbrev pub with_cofactor : List Element → List Element → ℕ → Partial → Counted (Partial × List Element)
+  with_cofactor u v count before =
+      and_counted (steps u v count before) (λ partial.
+      and_counted (free (formed (poly.product element u v))) (λ w.
+      free (Ok (partial, w))))
+
   -- the steps of the part v of exponent i, and u·v in the place of w = u·v^i; a part 1 is passed over
   abbrev pub with_part : ℕ → List Element → Partial × List Element → Counted (Partial × List Element)
   with_part i v before =
       if poly.is_one element v then free (Ok before) else
-      and_counted (free (formed (cofactor v i before.1))) (λ u.
-      and_counted (steps u v (i - 1) before.0) (λ partial.
-      and_counted (free (formed (poly.product element u v))) (λ w.
-      free (Ok (partial, w)))))
+      and_counted (free (formed (cofactor v i before.1))) (λ u. with_cofactor u v (i - 1) before.0)
 
   -- the parts of the exponents i, i + 1, ..
   abbrev pub with_parts : ℕ → List (List Element) → Partial × List Element → Counted (Partial × List Element)

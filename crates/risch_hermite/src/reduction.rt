@@ -108,6 +108,38 @@ fn cofactor(alloc: Global, part: &Poly, exponent: u16, denominator: &Poly) -> Re
     Ok(cofactor)
 }
 
+/// The steps of the part v with the cofactor u for j from `count` down to 1, and the denominator u·v.
+fn with_cofactor<U: Units>(
+    alloc: Global,
+    tower: &Tower,
+    level: u8,
+    part: &Poly,
+    cofactor: &Poly,
+    count: u16,
+    before: Partial,
+    units: &mut U,
+) -> Result<(Partial, Poly), Ended>
+    requires level { level ≤ length tower.now }
+    requires part_within { AllWithin level part.now }
+    requires cofactor_within { AllWithin level cofactor.now }
+    requires degree { 2 ≤ length part.now }
+    requires normal { IsNormal elements (level_derivation (monomials tower.now) level) (polynomial part.now) }
+    requires coprime { IsCoprime elements (polynomial part.now) (polynomial cofactor.now) }
+    requires numerator_within { AllWithin level before.numerator }
+    requires sum_within { Within (level + 1) before.sum }
+    ensures rule { IsCountedResult result (spec.with_cofactor tower.now level cofactor.now part.now count before) (U.units units.old) (U.units units.new) (U.most units.old) }
+    ensures meaning { (f : mean.Element) → IsReducedTo tower.now level f (polynomial cofactor.now *ₚ power (polynomials elements) (polynomial part.now) (count + 1)) before → IfOk result (λ it. IsReducedTo tower.now level f (polynomial it.1) it.0) }
+    ensures denominator { IfOk result (λ it. polynomial it.1 ≡ polynomial cofactor.now *ₚ polynomial part.now) }
+    ensures within { IfOk result (λ it. AllWithin level it.1 × AllWithin level it.0.numerator × Within (level + 1) it.0.sum) }
+    ensures leaves { LeavesOf result (U.leaves units.old) (U.leaves units.new) }
+    ensures same_most { U.most units.new ≡ U.most units.old }
+    ensures same_kept { U.kept units.new ≡ U.kept units.old }
+{
+    let partial = steps(alloc, tower, level, part, cofactor, count, before, units)?;
+    let denominator = cofactor.mul(alloc, part)?;
+    Ok((partial, denominator))
+}
+
 /// The steps of the part v = n_i, and u·v in the place of the denominator w = u·v^i.
 fn with_part<U: Units>(
     alloc: Global,
@@ -141,7 +173,7 @@ fn with_part<U: Units>(
     }
     let (partial, denominator) = before;
     let cofactor = cofactor(alloc, part, exponent, &denominator)?;
-    let partial = steps(
+    with_cofactor(
         alloc,
         tower,
         level,
@@ -150,9 +182,7 @@ fn with_part<U: Units>(
         exponent - 1,
         partial,
         units,
-    )?;
-    let denominator = cofactor.mul(alloc, part)?;
-    Ok((partial, denominator))
+    )
 }
 
 /// The parts n_2, n_3, .. one after the other.

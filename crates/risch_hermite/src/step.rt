@@ -156,6 +156,39 @@ fn solution(
     Poly::solve_mod(alloc, part, &middle, &right)
 }
 
+/// The step at j with its solution: g + b/v^j and -(j·c) - u·Db in the place of g and a, for b·(u·Dv) + c·v = -a/j.
+#[tactic(auto, using(risch_field::proofs::CheckedSteps::stop_passes, risch_field::proofs::CheckedSteps::value_passes))]
+fn step_by(
+    alloc: Global,
+    tower: &Tower,
+    level: u8,
+    part: &Poly,
+    cofactor: &Poly,
+    exponent: u16,
+    partial: &Partial,
+    solution: &(Poly, Poly),
+) -> Result<Partial, Fail>
+    requires level { level ≤ length tower.now }
+    requires part_within { AllWithin level part.now }
+    requires cofactor_within { AllWithin level cofactor.now }
+    requires degree { 2 ≤ length part.now }
+    requires positive { 1 ≤ exponent }
+    requires solves { IsStepSolution tower.now level (polynomial cofactor.now) (polynomial part.now) exponent (polynomial partial.now.numerator) (polynomial solution.now.0) (polynomial solution.now.1) }
+    requires top_within { AllWithin level solution.now.0 }
+    requires other_within { AllWithin level solution.now.1 }
+    requires sum_within { Within (level + 1) partial.now.sum }
+    ensures rule { Agrees result (spec.step_by tower.now level cofactor.now part.now exponent partial.now (Some solution.now)) }
+    ensures meaning { (f : mean.Element) → IsReducedTo tower.now level f (polynomial cofactor.now *ₚ ring.power (polynomials elements) (polynomial part.now) (exponent + 1)) partial.now → IfOk result (IsReducedTo tower.now level f (polynomial cofactor.now *ₚ ring.power (polynomials elements) (polynomial part.now) exponent)) }
+    ensures within { IfOk result (λ it. AllWithin level it.numerator × Within (level + 1) it.sum) }
+{
+    level_of(tower, level);
+    let _part_inner = part.inner();
+    let (top, other) = solution;
+    let sum = next_sum(alloc, level, part, exponent, &partial.sum, top)?;
+    let numerator = next_numerator(alloc, tower, level, cofactor, exponent, top, other)?;
+    Ok(Partial { sum, numerator })
+}
+
 /// The step at j: a/(u·v^(j + 1)) becomes the derivative of b/v^j and a numerator over u·v^j.
 pub(crate) fn step(
     alloc: Global,
@@ -179,9 +212,7 @@ pub(crate) fn step(
     ensures meaning { (f : mean.Element) → IsReducedTo tower.now level f (polynomial cofactor.now *ₚ ring.power (polynomials elements) (polynomial part.now) (exponent + 1)) partial → IfOk result (IsReducedTo tower.now level f (polynomial cofactor.now *ₚ ring.power (polynomials elements) (polynomial part.now) exponent)) }
     ensures within { IfOk result (λ it. AllWithin level it.numerator × Within (level + 1) it.sum) }
 {
-    level_of(tower, level);
-    let _part_inner = part.inner();
-    let (top, other) = solution(
+    let solution = solution(
         alloc,
         tower,
         level,
@@ -190,7 +221,7 @@ pub(crate) fn step(
         exponent,
         &partial.numerator,
     )?;
-    let sum = next_sum(alloc, level, part, exponent, &partial.sum, &top)?;
-    let numerator = next_numerator(alloc, tower, level, cofactor, exponent, &top, &other)?;
-    Ok(Partial { sum, numerator })
+    step_by(
+        alloc, tower, level, part, cofactor, exponent, &partial, &solution,
+    )
 }

@@ -1,10 +1,16 @@
-use Rattle.std.proofs.Common.{refl, sym, ◌∙◌, arith}
-use Rattle.std.proofs.lemmas.Result.{err_from_is_err_and}
+use Rattle.std.proofs.Common.{◌≡◌, List, refl, sym, ◌∙◌, arith}
+use Rattle.std.proofs.lemmas.Result.{IfOk-weaker, err_from_is_err_and}
+use Rattle.risch_ring.specs.CommRing.{power}
+use Rattle.risch_univariate.specs.PolynomialRing.{polynomials}
+use Rattle.risch_mean.specs.ElementField.{elements}
+use Rattle.risch_level.specs.Levels.{Element}
+use Rattle.risch_element_theory.specs.ElementPolynomials.{◌*ₚ◌}
 use Rattle.risch_element_theory.specs.WholeTower.{polynomial}
 use Rattle.risch_monomial.proofs.MonicPolynomials.{monic-length, not_one-length, is_one-stands}
 use Rattle.risch_run.proofs.CountedSteps.{stop-leaves}
-use Rattle.risch_hermite.proofs.PartMeaning.{has-power, cofactor-coprime, one-part, part-reduces, part-denominator}
-use Rattle.risch_hermite.proofs.PartRules.{part-one, part-cofactor_stops, part-steps_end, part-product_stops, part-found}
+use Rattle.risch_hermite.specs.declared.partial.Partial.{Partial}
+use Rattle.risch_hermite.proofs.PartMeaning.{has-power, cofactor-coprime, one-part, part-begins, part-denominator}
+use Rattle.risch_hermite.proofs.PartRules.{part-one, part-cofactor_stops, part-with}
 use Rattle.risch_hermite.proofs.reduction.with_part.Goals as goal
 
 pub returns-then-is_one : goal.returns-then-is_one
@@ -27,8 +33,8 @@ cofactor-requires g c = let two = c.requires.exponent in record {
   divides = has-power (polynomial c.args.part.now) c.args.exponent (polynomial c.args.before.1) c.requires.has_part;
 }
 
-pub steps-requires : goal.steps-requires
-steps-requires g c = record {
+pub with_cofactor-requires : goal.with_cofactor-requires
+with_cofactor-requires g c = record {
   level = c.requires.level;
   part_within = c.requires.part_within;
   cofactor_within = c.in_ok-cofactor.ensures.within c.args.level c.requires.part_within c.requires.denominator_within;
@@ -52,54 +58,22 @@ returns-in_err-cofactor g c =
       same_kept = refl;
     }
 
-pub returns-in_err-partial : goal.returns-in_err-partial
-returns-in_err-partial g c =
-    let p = err_from_is_err_and c.from_residual-in_err-partial.result c.from_residual-in_err-partial.ensures.1 in
-    record {
-      rule =
-          rw (p.1, p.2)
-          (part-steps_end c.args.tower.now c.args.level c.args.exponent c.args.part.now c.args.before (sym c.is_one.ensures ∙ c.if-is_one.false) c.in_ok-cofactor.cofactor c.in_ok-cofactor.ensures.rule c.in_err-partial.field-0.0 (g.U.Units.units c.args.units.now)
-          (g.U.Units.units c.steps.new.units) (g.U.Units.most c.args.units.now) c.in_err-partial.ensures.rule);
-      meaning = λ f h. rw p.1 tt;
-      denominator = rw p.1 tt;
-      within = rw p.1 tt;
-      leaves = rw (p.1, p.2) c.in_err-partial.ensures.leaves;
-      same_most = c.in_err-partial.ensures.same_most;
-      same_kept = c.in_err-partial.ensures.same_kept;
-    }
-
-pub returns-in_err-denominator : goal.returns-in_err-denominator
-returns-in_err-denominator g c =
-    let p = err_from_is_err_and c.from_residual-in_err-denominator.result c.from_residual-in_err-denominator.ensures.1 in
-    let same_leaves = c.in_ok-partial.ensures.leaves in
-    record {
-      rule =
-          rw p.1
-          (part-product_stops c.args.tower.now c.args.level c.args.exponent c.args.part.now c.args.before (sym c.is_one.ensures ∙ c.if-is_one.false) c.in_ok-cofactor.cofactor c.in_ok-cofactor.ensures.rule c.in_ok-partial.partial
-          (g.U.Units.units c.args.units.now) (g.U.Units.units c.steps.new.units) (g.U.Units.most c.args.units.now) c.in_ok-partial.ensures.rule p.0 c.in_err-denominator.field-0.0 p.2 c.in_err-denominator.ensures.rule);
-      meaning = λ f h. rw p.1 tt;
-      denominator = rw p.1 tt;
-      within = rw p.1 tt;
-      leaves = rw (p.1, same_leaves) (stop-leaves p.0 c.in_err-denominator.field-0.0 (g.U.Units.leaves c.args.units.now) p.2);
-      same_most = c.in_ok-partial.ensures.same_most;
-      same_kept = c.in_ok-partial.ensures.same_kept;
-    }
-
 pub returns : goal.returns
 returns g c =
     let two = c.requires.exponent in
     let v = polynomial c.args.part.now in
     let w = polynomial c.args.before.1 in
     let u = polynomial c.in_ok-cofactor.cofactor in
-    let w' = polynomial c.in_ok-denominator.denominator in
     record {
       rule =
-          part-found c.args.tower.now c.args.level c.args.exponent c.args.part.now c.args.before (sym c.is_one.ensures ∙ c.if-is_one.false) c.in_ok-cofactor.cofactor c.in_ok-cofactor.ensures.rule c.in_ok-partial.partial (g.U.Units.units c.args.units.now)
-          (g.U.Units.units c.steps.new.units) (g.U.Units.most c.args.units.now) c.in_ok-partial.ensures.rule c.in_ok-denominator.denominator c.in_ok-denominator.ensures.rule;
-      meaning = λ f. part-reduces c.args.tower.now c.args.level f u v w w' c.args.exponent c.args.before.0 c.in_ok-partial.partial (omega arith) c.in_ok-cofactor.ensures.meaning c.in_ok-denominator.ensures.meaning (c.in_ok-partial.ensures.meaning f);
-      denominator = part-denominator u v w w' c.args.exponent c.in_ok-cofactor.ensures.meaning c.in_ok-denominator.ensures.meaning;
-      within = (c.in_ok-denominator.ensures.within c.args.level (c.in_ok-cofactor.ensures.within c.args.level c.requires.part_within c.requires.denominator_within) c.requires.part_within, c.in_ok-partial.ensures.within.0, c.in_ok-partial.ensures.within.1);
-      leaves = c.in_ok-partial.ensures.leaves;
-      same_most = c.in_ok-partial.ensures.same_most;
-      same_kept = c.in_ok-partial.ensures.same_kept;
+          part-with c.args.tower.now c.args.level c.args.exponent c.args.part.now c.args.before (sym c.is_one.ensures ∙ c.if-is_one.false) c.in_ok-cofactor.cofactor c.in_ok-cofactor.ensures.rule c.with_cofactor.result
+          (g.U.Units.units c.args.units.now) (g.U.Units.units c.with_cofactor.new.units) (g.U.Units.most c.args.units.now) c.with_cofactor.ensures.rule;
+      meaning = λ f h. c.with_cofactor.ensures.meaning f (part-begins c.args.tower.now c.args.level f u v w c.args.exponent c.args.before.0 (omega arith) c.in_ok-cofactor.ensures.meaning h);
+      denominator =
+          IfOk-weaker c.with_cofactor.result (λ (it : Partial × List Element). polynomial it.1 ≡ u *ₚ v) (λ (it : Partial × List Element). polynomial it.1 *ₚ power (polynomials elements) v c.args.exponent ≡ w *ₚ v)
+          (λ it e. part-denominator u v w (polynomial it.1) c.args.exponent c.in_ok-cofactor.ensures.meaning e) c.with_cofactor.ensures.denominator;
+      within = c.with_cofactor.ensures.within;
+      leaves = c.with_cofactor.ensures.leaves;
+      same_most = c.with_cofactor.ensures.same_most;
+      same_kept = c.with_cofactor.ensures.same_kept;
     }
