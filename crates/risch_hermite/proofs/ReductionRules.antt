@@ -1,22 +1,21 @@
 -- The rules of the end of the reduction and of the whole, step by step, and how many parts there are.
 use Rattle.std.specs.Prelude.{if◌then◌else◌}
-use Rattle.std.proofs.Common.{◌≡◌, ℕ, zero, suc, ◌+◌, ◌-◌, ◌≤◌, Bool, true, false, List, [], ◌∷◌, ◌++◌, drop, length, Result, Ok, Err, refl, sym, subst, arith, length-append}
+use Rattle.std.proofs.Common.{◌≡◌, ℕ, zero, suc, ◌+◌, ◌≤◌, Bool, true, false, List, [], ◌∷◌, ◌++◌, drop, length, Result, Ok, Err, subst, arith, length-append}
 use Rattle.risch_field.specs.Checked.{Checked, and_then, Agrees, IsStopOf}
 use Rattle.risch_field.specs.declared.Fail.{Fail}
 use Rattle.risch_field.proofs.CheckedSteps.{stop_passes, value_passes, and_then-ok}
 use Rattle.risch_polynomial.specs.Poly as poly
 use Rattle.risch_level.specs.Levels.{Element, element}
-use Rattle.risch_level.specs.Parts.{levels}
 use Rattle.risch_run.specs.declared.Ended.{Ended}
 use Rattle.risch_run.specs.Ruled.{formed, ended_by}
 use Rattle.risch_run.specs.Counted.{Counted, free, and_counted, IsCountedResult}
 use Rattle.risch_run.proofs.CountedSteps.{end_passes, result_passes, value_goes_on, value_ends, stop_stands, stop_ends}
 use Rattle.risch_sub.specs.SquareFree.{parts_from, square_free_parts}
 use Rattle.risch_tower.specs.declared.level.Level.{Level}
-use Rattle.risch_monomial.specs.LevelElements.{of_polynomial, numerator_at, denominator_at}
+use Rattle.risch_monomial.specs.LevelElements.{denominator_at}
 use Rattle.risch_hermite.specs.declared.partial.Partial.{Partial}
 use Rattle.risch_hermite.specs.declared.reduction.Hermite.{Hermite}
-use Rattle.risch_hermite.specs.HermiteReduction.{finished, start, with_parts, hermite}
+use Rattle.risch_hermite.specs.HermiteReduction.{with_division, finished, start, with_parts, hermite}
 
 abbrev State : Type 0
 State = Partial × List Element
@@ -56,55 +55,34 @@ parts-few p parts e =
     omega (arith, few)
 
 -- ---- the end
-module _ (level : ℕ) (last : State) (q r : List Element) (divided : poly.division element last.0.numerator last.1 ≡ Ok (q, r)) where
-  abbrev found : Element → Element → Checked Hermite
-  found h rest = Ok (record { g = last.0.sum; h = h; rest = rest })
+pub division-stops : (level : ℕ) (last : State) (stop : Fail) → IsStopOf stop (poly.division element last.0.numerator last.1) → IsStopOf stop (finished level last)
+unfolding finished
+division-stops level last stop h = stop_passes stop (poly.division element last.0.numerator last.1) (with_division level last.0 last.1) h
 
-  abbrev with_quotient : Element → Checked Hermite
-  with_quotient h = and_then (of_polynomial level q) (found h)
-
-  abbrev with_division : List Element × List Element → Checked Hermite
-  with_division d = and_then ((levels 5).quotient (4 - level) d.1 last.1) (λ h. and_then (of_polynomial level d.0) (λ rest. Ok (record { g = last.0.sum; h = h; rest = rest })))
-
-  finished-with : (result : Result Hermite Fail) → Agrees result (with_division (q, r)) → Agrees result (finished level last)
-  unfolding finished
-  finished-with result h = value_passes result (poly.division element last.0.numerator last.1) with_division (q, r) divided h
-
-  pub quotient-stops : (stop : Fail) → IsStopOf stop ((levels 5).quotient (4 - level) r last.1) → IsStopOf stop (finished level last)
-  quotient-stops stop h = finished-with (Err stop) (stop_passes stop ((levels 5).quotient (4 - level) r last.1) with_quotient h)
-
-  module _ (h : Element) (formed : (levels 5).quotient (4 - level) r last.1 ≡ Ok h) where
-    pub rest-stops : (stop : Fail) → IsStopOf stop (of_polynomial level q) → IsStopOf stop (finished level last)
-    rest-stops stop e = finished-with (Err stop) (value_passes (Err stop) ((levels 5).quotient (4 - level) r last.1) with_quotient h formed (stop_passes stop (of_polynomial level q) (found h) e))
-
-    pub finished-found : (rest : Element) → of_polynomial level q ≡ Ok rest → finished level last ≡ Ok (record { g = last.0.sum; h = h; rest = rest })
-    finished-found rest e = finished-with (found h rest) (value_passes (found h rest) ((levels 5).quotient (4 - level) r last.1) with_quotient h formed (rw e refl))
+pub finished-with : (level : ℕ) (last : State) (d : List Element × List Element) (result : Result Hermite Fail) → poly.division element last.0.numerator last.1 ≡ Ok d → Agrees result (with_division level last.0 last.1 d) →
+    Agrees result (finished level last)
+unfolding finished
+finished-with level last d result divided h = value_passes result (poly.division element last.0.numerator last.1) (with_division level last.0 last.1) d divided h
 
 -- ---- the whole
-module _ (tower : List Level) (level : ℕ) (f sum : Element) (a n : List Element) (is_zero : sum ≡ element.zero) (is_numerator : a ≡ numerator_at level f) (is_denominator : n ≡ denominator_at level f) where
-  abbrev begin : State
-  begin = (record { sum = sum; numerator = a }, n)
-
-  begins : start level f ≡ begin
-  begins = rw (is_zero, is_numerator, is_denominator) refl
-
+module _ (tower : List Level) (level : ℕ) (f : Element) (begin : State) (begins : begin ≡ start level f) where
   abbrev last : State → Counted Hermite
   last state = free (formed (finished level state))
 
   abbrev with_all : List (List Element) → Counted Hermite
   with_all parts = and_counted (with_parts tower level 2 (drop 1 parts) (start level f)) last
 
-  pub square_free-stops : (end : Ended) (stop : Fail) (k most : ℕ) → end ≡ ended_by stop → IsStopOf stop (square_free_parts n) → IsCountedResult {A = Hermite} (Err end) (hermite tower level f) k k most
+  pub square_free-stops : (end : Ended) (stop : Fail) (k most : ℕ) → end ≡ ended_by stop → IsStopOf stop (square_free_parts begin.1) → IsCountedResult {A = Hermite} (Err end) (hermite tower level f) k k most
   unfolding hermite
-  square_free-stops end stop k most e h = stop_ends {B = Hermite} end stop (square_free_parts (denominator_at level f)) with_all k most e (rw is_denominator at h)
+  square_free-stops end stop k most e h = stop_ends {B = Hermite} end stop (square_free_parts (denominator_at level f)) with_all k most e (rw begins at h)
 
-  module _ (parts : List (List Element)) (split : square_free_parts n ≡ Ok parts) where
+  module _ (parts : List (List Element)) (split : square_free_parts begin.1 ≡ Ok parts) where
     whole-with : (result : Result Hermite Ended) (before after most : ℕ) → IsCountedResult result (and_counted (with_parts tower level 2 (drop 1 parts) begin) last) before after most →
         IsCountedResult result (hermite tower level f) before after most
     unfolding hermite
     whole-with result before after most h =
-        value_goes_on result (square_free_parts (denominator_at level f)) with_all parts before after most (rw is_denominator at split)
-        (subst (λ state. IsCountedResult result (and_counted (with_parts tower level 2 (drop 1 parts) state) last) before after most) (sym begins) h)
+        value_goes_on result (square_free_parts (denominator_at level f)) with_all parts before after most (rw begins at split)
+        (subst (λ state. IsCountedResult result (and_counted (with_parts tower level 2 (drop 1 parts) state) last) before after most) begins h)
 
     pub parts-end : (end : Ended) (before after most : ℕ) → IsCountedResult {A = State} (Err end) (with_parts tower level 2 (drop 1 parts) begin) before after most → IsCountedResult {A = Hermite} (Err end) (hermite tower level f) before after most
     parts-end end before after most h = whole-with (Err end) before after most (end_passes {B = Hermite} end (with_parts tower level 2 (drop 1 parts) begin) last before after most h)

@@ -1,27 +1,29 @@
 -- The reduction begins with f = D(0) + a/n.
-use Rattle.std.proofs.Common.{◌≡◌, ℕ, ◌+◌, List, sym, ◌∙◌, ap}
+use Rattle.std.proofs.Common.{◌≡◌, ℕ, ◌+◌, List, sym, ◌∙◌, ap, subst}
 use Rattle.risch_ring.proofs.Derivations as Derivations
 use Rattle.risch_ring.proofs.Laws as Laws
-use Rattle.risch_mean.specs.Element.{◌+ₑ◌, ◌*ₑ◌}
+use Rattle.risch_mean.specs.Element.{◌+ₑ◌}
 use Rattle.risch_mean.specs.ElementField.{elements}
 use Rattle.risch_mean.specs.Tower.{derive_in}
-use Rattle.risch_level.specs.Levels.{Element, element}
+use Rattle.risch_level.specs.Levels.{Element}
 use Rattle.risch_element_theory.specs.WholeTower.{IsElement, meaning, polynomial, Within}
 use Rattle.risch_element_theory.proofs.DerivationTower.{derivation_in}
 use Rattle.risch_element_theory.proofs.ElementPolynomials.{element_interprets}
 use Rattle.risch_tower.specs.declared.level.Level.{Level}
 use Rattle.risch_tower.specs.TowerMeaning.{monomials}
 use Rattle.risch_monomial.specs.LevelDerivation.{IsLevelOf}
-use Rattle.risch_monomial.specs.LevelElements.{at, numerator_at, denominator_at}
 use Rattle.risch_monomial.proofs.LowestTerms.{parts-product}
+use Rattle.risch_hermite.specs.declared.partial.Partial.{Partial}
+use Rattle.risch_hermite.specs.HermiteReduction.{start}
 use Rattle.risch_hermite.specs.HermiteMeaning.{IsReducedTo}
 
-pub start-reduced : (tower : List Level) (level : ℕ) (f sum : Element) (a n : List Element) → sum ≡ element.zero → a ≡ numerator_at level f → n ≡ denominator_at level f → IsLevelOf tower level → IsElement f → Within (level + 1) f →
-    IsReducedTo tower level (meaning f) (polynomial n) (record { sum = sum; numerator = a })
-start-reduced tower level f sum a n is_zero is_numerator is_denominator l v w =
+pub start-reduced : (tower : List Level) (level : ℕ) (f : Element) (begin : Partial × List Element) → begin ≡ start level f → IsLevelOf tower level → IsElement f → Within (level + 1) f →
+    IsReducedTo tower level (meaning f) (polynomial begin.1) begin.0
+start-reduced tower level f begin begins l v w =
     let d = derive_in (monomials tower) in
-    record {
+    subst (λ (s : Partial × List Element). IsReducedTo tower level (meaning f) (polynomial s.1) s.0) (sym begins)
+    (record {
       rest = meaning f;
-      product = ap (λ p. meaning f *ₑ at level (polynomial p)) is_denominator ∙ parts-product level f l.low v w ∙ ap (λ p. at level (polynomial p)) (sym is_numerator);
-      sum = sym (ap (λ y. y +ₑ meaning f) (ap d (ap meaning is_zero ∙ element_interprets.zero-means) ∙ Derivations.derive-zero (derivation_in (monomials tower))) ∙ Laws.zero-add elements.ring (meaning f));
-    }
+      product = parts-product level f l.low v w;
+      sum = sym (ap (λ y. y +ₑ meaning f) (ap d element_interprets.zero-means ∙ Derivations.derive-zero (derivation_in (monomials tower))) ∙ Laws.zero-add elements.ring (meaning f));
+    })

@@ -45,13 +45,16 @@ next_sum level v j g b = and_then (power v j) (λ p. and_then (ratio level b p) 
 abbrev pub start : ℕ → Element → Partial × List Element
 start level f = (record { sum = element.zero; numerator = numerator_at level f }, denominator_at level f)
 
+-- g, r/w and q for the quotient q and the remainder r
+abbrev pub with_division : ℕ → Partial → List Element → List Element × List Element → Checked Hermite
+with_division level partial w d =
+    and_then ((levels 5).quotient (4 - level) d.1 w) (λ h.
+    and_then (of_polynomial level d.0) (λ rest.
+    Ok (record { g = partial.sum; h = h; rest = rest })))
+
 -- g, r/w and q for a = q·w + r
 unfoldable pub finished : ℕ → Partial × List Element → Checked Hermite
-finished level last =
-    and_then (poly.division element last.0.numerator last.1) (λ d.
-    and_then ((levels 5).quotient (4 - level) d.1 last.1) (λ h.
-    and_then (of_polynomial level d.0) (λ rest.
-    Ok (record { g = last.0.sum; h = h; rest = rest }))))
+finished level last = and_then (poly.division element last.0.numerator last.1) (with_division level last.0 last.1)
 
 module _ (tower : List Level) (level : ℕ) where
   -- ---- one step

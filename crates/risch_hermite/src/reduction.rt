@@ -10,7 +10,7 @@ ghost use Rattle.risch_mean.specs.Element as mean;
 ghost use Rattle.risch_mean.specs.ElementField.{elements};
 ghost use Rattle.risch_field.specs.Checked.{Agrees};
 ghost use Rattle.risch_level.specs.Levels.{Element};
-ghost use Rattle.risch_element_theory.specs.ElementPolynomials.{◌*ₚ◌};
+ghost use Rattle.risch_element_theory.specs.ElementPolynomials.{◌*ₚ◌, IsDivisionOf};
 ghost use Rattle.risch_element_theory.specs.WholeTower.{meaning, polynomial, Within, AllWithin};
 ghost use Rattle.risch_tower.specs.declared.level.Level.{Level};
 ghost use Rattle.risch_tower.specs.TowerMeaning.{monomials};
@@ -226,8 +226,42 @@ fn with_parts<U: Units>(
     Ok(state)
 }
 
+/// g, r/w and q, for the quotient q and the remainder r of a by w.
+#[tactic(auto, using(risch_field::proofs::CheckedSteps::stop_passes, risch_field::proofs::CheckedSteps::value_passes))]
+fn with_division(
+    alloc: Global,
+    level: u8,
+    partial: Partial,
+    denominator: &Poly,
+    division: &(Poly, Poly),
+) -> Result<Hermite, Fail>
+    requires level { level < 5 }
+    requires monic { IsMonic elements (polynomial denominator.now) }
+    requires division { IsDivisionOf partial.numerator denominator.now division.now }
+    requires denominator_within { AllWithin level denominator.now }
+    requires quotient_within { AllWithin level division.now.0 }
+    requires remainder_within { AllWithin level division.now.1 }
+    requires sum_within { Within (level + 1) partial.sum }
+    ensures rule { Agrees result (spec.with_division level partial denominator.now division.now) }
+    ensures meaning { (tower : List Level) (f : Element) → IsNormal elements (level_derivation (monomials tower) level) (polynomial denominator.now) → IsReducedTo tower level (meaning f) (polynomial denominator.now) partial → IfOk result (IsHermiteReduction tower level f) }
+    ensures within { IfOk result (λ it. Within (level + 1) it.g × Within (level + 1) it.h × Within (level + 1) it.rest) }
+{
+    let (quotient, remainder) = division;
+    let h = Elem::quotient(alloc, level, remainder, denominator)?;
+    let rest = of_polynomial(alloc, level, quotient)?;
+    let _denominator_inner = denominator.inner();
+    let _quotient_inner = quotient.inner();
+    let _remainder_inner = remainder.inner();
+    let _h_nest = h.nest();
+    let _rest_nest = rest.nest();
+    Ok(Hermite {
+        g: partial.sum,
+        h,
+        rest,
+    })
+}
+
 /// g, r/w and q for the numerator a = q·w + r.
-#[tactic(auto, using(risch_field::proofs::CheckedSteps::stop_passes, risch_field::proofs::CheckedSteps::value_passes), unfolding(crate::specs::HermiteReduction::finished))]
 fn finished(alloc: Global, level: u8, last: (Partial, Poly)) -> Result<Hermite, Fail>
     requires level { level < 5 }
     requires monic { IsMonic elements (polynomial last.1) }
@@ -239,19 +273,23 @@ fn finished(alloc: Global, level: u8, last: (Partial, Poly)) -> Result<Hermite, 
     ensures within { IfOk result (λ it. Within (level + 1) it.g × Within (level + 1) it.h × Within (level + 1) it.rest) }
 {
     let (partial, denominator) = last;
-    let (quotient, remainder) = partial.numerator.div_rem(alloc, &denominator)?;
-    let h = Elem::quotient(alloc, level, &remainder, &denominator)?;
-    let rest = of_polynomial(alloc, level, &quotient)?;
-    let _denominator_inner = denominator.inner();
-    let _quotient_inner = quotient.inner();
-    let _remainder_inner = remainder.inner();
-    let _h_nest = h.nest();
-    let _rest_nest = rest.nest();
-    Ok(Hermite {
-        g: partial.sum,
-        h,
-        rest,
-    })
+    let division = partial.numerator.div_rem(alloc, &denominator)?;
+    with_division(alloc, level, partial, &denominator, &division)
+}
+
+/// 0 and a, and n, of an element a/n of the level: the reduction a/n = D0 + a/n to begin with.
+///
+/// `Err` for want of memory alone.
+fn start(alloc: Global, level: u8, of: &Elem) -> Result<(Partial, Poly), AllocError>
+    requires level { level < 5 }
+    requires within { Within (level + 1) of.now }
+    ensures rule { IfOk result (λ it. it ≡ spec.start level of.now) }
+    ensures within { IfOk result (λ it. AllWithin level it.1 × AllWithin level it.0.numerator × Within (level + 1) it.0.sum) }
+{
+    let numerator = of.num_poly(alloc, level)?;
+    let denominator = of.den_poly(alloc, level)?;
+    let sum = Elem::zero();
+    Ok((Partial { sum, numerator }, denominator))
 }
 
 /// The Hermite reduction, or what ends it.
@@ -274,12 +312,9 @@ pub(crate) fn reduction<U: Units>(
 {
     level_of(tower, level);
     let _nest = normal.nest();
-    let numerator = normal.num_poly(alloc, level)?;
-    let denominator = normal.den_poly(alloc, level)?;
-    let _denominator_inner = denominator.inner();
-    let parts = square_free(alloc, &denominator)?;
-    let sum = Elem::zero();
-    let start = (Partial { sum, numerator }, denominator);
+    let start = start(alloc, level, normal)?;
+    let _denominator_inner = start.1.inner();
+    let parts = square_free(alloc, &start.1)?;
     let last = with_parts(alloc, tower, level, parts.as_slice(), start, units)?;
     let reduced = finished(alloc, level, last)?;
     Ok(reduced)

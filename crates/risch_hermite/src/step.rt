@@ -9,6 +9,8 @@ ghost use Rattle.risch_mean.specs.Element as mean;
 ghost use Rattle.risch_mean.specs.Element.{◌*ₑ◌};
 ghost use Rattle.risch_mean.specs.ElementField.{elements};
 ghost use Rattle.risch_field.specs.Checked.{Agrees, map_ok};
+ghost use Rattle.risch_polynomial.specs.Poly as rules;
+ghost use Rattle.risch_level.specs.Levels.{element};
 ghost use Rattle.risch_element_theory.specs.WholeTower.{meaning, polynomial, Within, AllWithin};
 ghost use Rattle.risch_element_theory.specs.ElementPolynomials.{◌+ₚ◌, ◌*ₚ◌, negative, multiple};
 ghost use Rattle.risch_tower.specs.TowerMeaning.{monomials};
@@ -92,6 +94,24 @@ fn next_sum(
     sum.add(alloc, &piece)
 }
 
+/// j·p.
+fn whole_multiple(alloc: Global, exponent: u16, of: &Poly) -> Result<Poly, Fail>
+    ensures rule { Agrees result (rules.scaled element (element.whole exponent) of.now) }
+    ensures meaning { IfOk result (λ it. polynomial it ≡ multiple (ring.of_nat elements.ring exponent) (polynomial of.now)) }
+    ensures within { (n : ℕ) → AllWithin n of.now → IfOk result (λ it. AllWithin n it) }
+{
+    of.scale(alloc, &Elem::whole(exponent))
+}
+
+/// -p - q.
+fn negative_sum(alloc: Global, left: &Poly, right: &Poly) -> Result<Poly, Fail>
+    ensures rule { Agrees result (rules.sum element (rules.negatives element left.now) (rules.negatives element right.now)) }
+    ensures meaning { IfOk result (λ it. polynomial it ≡ negative (polynomial left.now) +ₚ negative (polynomial right.now)) }
+    ensures within { (n : ℕ) → AllWithin n left.now → AllWithin n right.now → IfOk result (λ it. AllWithin n it) }
+{
+    left.neg(alloc)?.add(alloc, &right.neg(alloc)?)
+}
+
 /// -(j·c) - u·Db.
 #[tactic(auto, using(risch_field::proofs::CheckedSteps::stop_passes, risch_field::proofs::CheckedSteps::value_passes), unfolding(crate::specs::HermiteReduction::next_numerator))]
 fn next_numerator(
@@ -111,9 +131,9 @@ fn next_numerator(
     ensures meaning { IfOk result (λ it. polynomial it ≡ negative (multiple (ring.of_nat elements.ring exponent) (polynomial other.now)) +ₚ negative (polynomial cofactor.now *ₚ (level_derivation (monomials tower.now) level).derive (polynomial top.now))) }
     ensures within { IfOk result (λ it. AllWithin level it) }
 {
-    let left = other.scale(alloc, &Elem::whole(exponent))?;
+    let left = whole_multiple(alloc, exponent, other)?;
     let right = multiple_of_derivative(alloc, tower, level, cofactor, top)?;
-    left.neg(alloc)?.add(alloc, &right.neg(alloc)?)
+    negative_sum(alloc, &left, &right)
 }
 
 /// -1/j, for j ≥ 1.

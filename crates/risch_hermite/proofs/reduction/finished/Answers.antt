@@ -1,46 +1,34 @@
-use Rattle.std.proofs.Common.{arith}
+use Rattle.std.proofs.lemmas.Result.{err_from_is_err_and}
 use Rattle.risch_monomial.proofs.MonicPolynomials.{monic-length}
-use Rattle.risch_hermite.proofs.ReductionEnd.{end-means}
-use Rattle.risch_hermite.proofs.ReductionRules.{quotient-stops, rest-stops, finished-found}
+use Rattle.risch_hermite.proofs.ReductionRules.{division-stops, finished-with}
 use Rattle.risch_hermite.proofs.reduction.finished.Goals as goal
 
 pub div_rem-requires : goal.div_rem-requires
 div_rem-requires c = monic-length c.args.last.1 c.requires.monic
 
-pub quotient-requires : goal.quotient-requires
-quotient-requires c = record {
-  level = c.requires.level;
-  some = monic-length c.args.last.1 c.requires.monic;
-  num_within = (c.in_ok-quotient.ensures.within c.args.level c.requires.numerator_within c.requires.denominator_within).1;
-  den_within = c.requires.denominator_within;
-}
-
-pub of_polynomial-requires : goal.of_polynomial-requires
-of_polynomial-requires c = record {
-  level = c.requires.level;
-  within = (c.in_ok-quotient.ensures.within c.args.level c.requires.numerator_within c.requires.denominator_within).0;
-}
-
-pub returns-in_err-h-clause-rule : goal.returns-in_err-h-clause-rule
-returns-in_err-h-clause-rule c =
-    let stops = quotient-stops c.args.level c.args.last c.in_ok-quotient.quotient c.in_ok-quotient.remainder c.in_ok-quotient.ensures.rule c.in_err-h.field-0.0 c.in_err-h.ensures.rule in
-    grind (arith, stops)
-
-pub returns-in_err-rest-clause-rule : goal.returns-in_err-rest-clause-rule
-returns-in_err-rest-clause-rule c =
-    let stops = rest-stops c.args.level c.args.last c.in_ok-quotient.quotient c.in_ok-quotient.remainder c.in_ok-quotient.ensures.rule c.in_ok-h.h c.in_ok-h.ensures.rule c.in_err-rest.field-0.0 c.in_err-rest.ensures.rule in
-    grind (arith, stops)
-
-pub returns : goal.returns
-returns c =
-    let level = c.args.level in
-    let within = c.in_ok-quotient.ensures.within level c.requires.numerator_within c.requires.denominator_within in
-    let small = c.requires.level in
+pub with_division-requires : goal.with_division-requires
+with_division-requires c =
+    let within = c.in_ok-division.ensures.within c.args.level c.requires.numerator_within c.requires.denominator_within in
     record {
-      rule = finished-found level c.args.last c.in_ok-quotient.quotient c.in_ok-quotient.remainder c.in_ok-quotient.ensures.rule c.in_ok-h.h c.in_ok-h.ensures.rule c.in_ok-rest.rest c.in_ok-rest.ensures.rule;
-      meaning =
-          end-means level (omega arith) c.args.last.1 c.inner-denominator_inner.ensures.normal c.requires.denominator_within c.requires.monic c.in_ok-quotient.quotient c.in_ok-quotient.remainder c.inner-quotient_inner.ensures.normal within.0
-          c.inner-remainder_inner.ensures.normal within.1 c.args.last.0 c.in_ok-quotient.ensures.meaning c.in_ok-h.h c.in_ok-rest.rest c.nest-h_nest.ensures.normal c.in_ok-h.ensures.within c.nest-rest_nest.ensures.normal c.in_ok-rest.ensures.within
-          c.in_ok-h.ensures.meaning c.in_ok-rest.ensures.meaning;
-      within = (c.requires.sum_within, c.in_ok-h.ensures.within, c.in_ok-rest.ensures.within);
+      level = c.requires.level;
+      monic = c.requires.monic;
+      division = c.in_ok-division.ensures.meaning;
+      denominator_within = c.requires.denominator_within;
+      quotient_within = within.0;
+      remainder_within = within.1;
+      sum_within = c.requires.sum_within;
     }
+
+pub returns-in_err-division-clause-rule : goal.returns-in_err-division-clause-rule
+returns-in_err-division-clause-rule c =
+    let ended = err_from_is_err_and c.from_residual.result c.from_residual.ensures.1 in
+    rw (ended.1, ended.2) (division-stops c.args.level c.args.last c.in_err-division.field-0.0 c.in_err-division.ensures.rule)
+
+pub returns-clause-rule : goal.returns-clause-rule
+returns-clause-rule c = finished-with c.args.level c.args.last c.in_ok-division.division c.with_division.result c.in_ok-division.ensures.rule c.with_division.ensures.rule
+
+pub returns-clause-meaning : goal.returns-clause-meaning
+returns-clause-meaning c = c.with_division.ensures.meaning
+
+pub returns-clause-within : goal.returns-clause-within
+returns-clause-within c = c.with_division.ensures.within
