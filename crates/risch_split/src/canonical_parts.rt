@@ -1,6 +1,6 @@
 //! The canonical parts of an element of a level.
 
-ghost use Rattle.std.specs.Prelude.{◌≡◌, ◌≤◌, ◌<◌, ◌+◌, length, IfOk};
+ghost use Rattle.std.specs.Prelude.{◌≡◌, ◌≤◌, ◌<◌, ◌+◌, length, Some, IfOk};
 ghost use Rattle.risch_univariate.specs.Degree.{IsMonic};
 ghost use Rattle.risch_univariate.specs.Division.{IsCoprime};
 ghost use Rattle.risch_mean.specs.ElementField.{elements};
@@ -111,6 +111,32 @@ fn without_normal(
     })
 }
 
+/// The parts q + r'/s and z/n for the solution r' and z of n·r' + s·z = r.
+#[tactic(auto, using(risch_field::proofs::CheckedSteps::stop_passes, risch_field::proofs::CheckedSteps::value_passes))]
+fn parts_of(
+    alloc: Global,
+    level: u8,
+    whole: &Poly,
+    split: &Split,
+    solution: &(Poly, Poly),
+) -> Result<Canonical, Fail>
+    requires level { level < 5 }
+    requires some_normal { 0 < length split.now.normal }
+    requires some_special { 0 < length split.now.special }
+    requires whole_within { AllWithin level whole.now }
+    requires normal_within { AllWithin level split.now.normal }
+    requires special_within { AllWithin level split.now.special }
+    requires top_within { AllWithin level solution.now.0 }
+    requires other_within { AllWithin level solution.now.1 }
+    ensures rule { Agrees result (spec.parts_of level whole.now split.now (Some solution.now)) }
+    ensures within { IfOk result (λ it. Within (level + 1) it.reduced × Within (level + 1) it.normal) }
+{
+    let (top, other) = solution;
+    let reduced = reduced_part(alloc, level, whole, top, &split.special)?;
+    let normal = ratio(alloc, level, other, &split.normal)?;
+    Ok(Canonical { reduced, normal })
+}
+
 /// The parts of q + r/(n·s): q + r'/s and z/n with n·r' + s·z = r and deg r' < deg s.
 #[tactic(auto, using(risch_field::proofs::CheckedSteps::stop_passes, risch_field::proofs::CheckedSteps::value_passes), unfolding(crate::specs::Canonical::parts_by))]
 fn parts_by(
@@ -138,10 +164,8 @@ fn parts_by(
     if split.normal.is_one() {
         return without_normal(alloc, level, whole, rest, &split.special);
     }
-    let (top, other) = Poly::solve_mod(alloc, &split.special, &split.normal, rest)?;
-    let reduced = reduced_part(alloc, level, whole, &top, &split.special)?;
-    let normal = ratio(alloc, level, &other, &split.normal)?;
-    Ok(Canonical { reduced, normal })
+    let solution = Poly::solve_mod(alloc, &split.special, &split.normal, rest)?;
+    parts_of(alloc, level, whole, split, &solution)
 }
 
 /// A numerator N = q·M + r over its denominator M, with deg r < deg M.

@@ -5,6 +5,7 @@ ghost use Rattle.risch_field.specs.Checked.{Agrees};
 ghost use Rattle.risch_polynomial.specs.Poly as rules;
 ghost use Rattle.risch_level.specs.Levels.{element as operations};
 ghost use Rattle.risch_element_theory.specs.WholeTower.{Within};
+ghost use Rattle.risch_monomial.specs.LevelElements.{numerator_at, denominator_at};
 ghost use Rattle.risch_split.specs.Canonical as spec;
 
 use crate::special::least_exponent;
@@ -34,6 +35,30 @@ fn constant_coefficient(alloc: Global, of: &Poly) -> Result<Elem, AllocError>
     }
 }
 
+/// N_0 for the numerator N of an element at a level; it lies below the level where the element lies in it.
+///
+/// `Err` for want of memory alone.
+fn numerator_at_zero(alloc: Global, level: u8, of: &Elem) -> Result<Elem, AllocError>
+    requires { level < 5 }
+    ensures value { IfOk result (λ it. it ≡ rules.coefficient operations (numerator_at level of.now) 0) }
+    ensures within { Within (level + 1) of.now → IfOk result (λ it. Within level it) }
+{
+    let numerator = of.num_poly(alloc, level)?;
+    constant_coefficient(alloc, &numerator)
+}
+
+/// M_0 for the denominator M of an element at a level; it lies below the level where the element lies in it.
+///
+/// `Err` for want of memory alone.
+fn denominator_at_zero(alloc: Global, level: u8, of: &Elem) -> Result<Elem, AllocError>
+    requires { level < 5 }
+    ensures value { IfOk result (λ it. it ≡ rules.coefficient operations (denominator_at level of.now) 0) }
+    ensures within { Within (level + 1) of.now → IfOk result (λ it. Within level it) }
+{
+    let denominator = of.den_poly(alloc, level)?;
+    constant_coefficient(alloc, &denominator)
+}
+
 /// The value N_0/M_0 of an element N/M of order 0 where the variable of the level is 0; it lies below the level where the element lies in it.
 ///
 /// Stops: those of the quotient.
@@ -44,9 +69,7 @@ pub fn value_at(alloc: Global, level: u8, element: &Elem) -> Result<Elem, Fail>
     ensures within { Within (level + 1) element.now → IfOk result (λ it. Within level it) }
 {
     let _nest = element.nest();
-    let numerator = element.num_poly(alloc, level)?;
-    let denominator = element.den_poly(alloc, level)?;
-    let top = constant_coefficient(alloc, &numerator)?;
-    let bottom = constant_coefficient(alloc, &denominator)?;
+    let top = numerator_at_zero(alloc, level, element)?;
+    let bottom = denominator_at_zero(alloc, level, element)?;
     top.div(alloc, &bottom)
 }

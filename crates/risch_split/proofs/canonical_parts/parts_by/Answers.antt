@@ -17,14 +17,16 @@ solve_mod-requires-clause-degree c = not_one-length c.args.split.now.special c.i
 pub solve_mod-requires-clause-coprime : goal.solve_mod-requires-clause-coprime
 solve_mod-requires-clause-coprime c = Gcd.coprime_sym elements (polynomial c.args.split.now.normal) (polynomial c.args.split.now.special) c.requires.coprime
 
-pub reduced_part-requires-clause-some : goal.reduced_part-requires-clause-some
-reduced_part-requires-clause-some c = monic-length c.args.split.now.special c.requires.special_monic
-
-pub reduced_part-requires-clause-top_within : goal.reduced_part-requires-clause-top_within
-reduced_part-requires-clause-top_within c = (c.in_ok-top.ensures.within c.args.level c.requires.special_within c.requires.normal_within c.requires.rest_within).0
-
-pub ratio-requires-clause-some : goal.ratio-requires-clause-some
-ratio-requires-clause-some c = monic-length c.args.split.now.normal c.requires.normal_monic
-
-pub ratio-requires-clause-top_within : goal.ratio-requires-clause-top_within
-ratio-requires-clause-top_within c = (c.in_ok-top.ensures.within c.args.level c.requires.special_within c.requires.normal_within c.requires.rest_within).1
+pub parts_of-requires : goal.parts_of-requires
+parts_of-requires c =
+    let within = c.in_ok-solution.ensures.within c.args.level c.requires.special_within c.requires.normal_within c.requires.rest_within in
+    record {
+      level = c.requires.level;
+      some_normal = monic-length c.args.split.now.normal c.requires.normal_monic;
+      some_special = monic-length c.args.split.now.special c.requires.special_monic;
+      whole_within = c.requires.whole_within;
+      normal_within = c.requires.normal_within;
+      special_within = c.requires.special_within;
+      top_within = within.0;
+      other_within = within.1;
+    }
