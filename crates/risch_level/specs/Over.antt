@@ -65,27 +65,49 @@ module _ {E : Type 0} (o : Ops E) where
       and_then (o.quotient o.one (poly.last o m)) (λ u.
       and_then (poly.scaled o u n) (λ n'. and_then (poly.scaled o u m) (λ m'. Ok (n', m'))))
 
+  -- n/m for coprime n and m, with a monic denominator
+  abbrev pub scaled_element : List E → List E → Checked (Over E)
+  scaled_element n m = and_then (scaled n m) (λ s. element s.0 s.1)
+
+  -- n/m without the common divisor of n and m, with a monic denominator
+  abbrev pub lowest_terms : List E → List E → Checked (Over E)
+  lowest_terms n m = and_then (poly.gcd o n m) (λ g. and_then (divided g n m) (λ d. scaled_element d.0 d.1))
+
   -- the normal form of (n, m) for m other than 0
   unfoldable pub normal_form : List E → List E → Checked (Over E)
   normal_form n m =
       if poly.is_zero o n then Ok (Below o.zero) else
       if poly.is_one o m then element n m else
-      and_then (poly.gcd o n m) (λ g.
-      and_then (divided g n m) (λ d.
-      and_then (scaled d.0 d.1) (λ s.
-      element s.0 s.1)))
+      lowest_terms n m
 
-  -- the sum of n/m and n'/m'
-  unfoldable pub quotient_sum : List E → List E → List E → List E → Checked (Over E)
-  quotient_sum n m n' m' =
-      if poly.same o m m' then and_then (poly.sum o n n') (λ s. normal_form s m) else
-      if poly.is_one o m' then and_then (poly.product o n' m) (λ a. and_then (poly.sum o n a) (λ s. element s m)) else
-      if poly.is_one o m then and_then (poly.product o n m') (λ a. and_then (poly.sum o a n') (λ s. element s m')) else
+  -- the normal form of (n + n')/m
+  abbrev pub sum_over : List E → List E → List E → Checked (Over E)
+  sum_over n n' m = and_then (poly.sum o n n') (λ s. normal_form s m)
+
+  -- (n + n'·m)/m
+  abbrev pub sum_with_polynomial : List E → List E → List E → Checked (Over E)
+  sum_with_polynomial n m n' = and_then (poly.product o n' m) (λ a. and_then (poly.sum o n a) (λ s. element s m))
+
+  -- (n·m' + n')/m'
+  abbrev pub polynomial_with_sum : List E → List E → List E → Checked (Over E)
+  polynomial_with_sum n n' m' = and_then (poly.product o n m') (λ a. and_then (poly.sum o a n') (λ s. element s m'))
+
+  -- the normal form of (n·m' + n'·m)/(m·m')
+  abbrev pub sum_over_product : List E → List E → List E → List E → Checked (Over E)
+  sum_over_product n m n' m' =
       and_then (poly.product o n m') (λ a.
       and_then (poly.product o n' m) (λ b.
       and_then (poly.sum o a b) (λ s.
       and_then (poly.product o m m') (λ d.
       normal_form s d))))
+
+  -- the sum of n/m and n'/m'
+  unfoldable pub quotient_sum : List E → List E → List E → List E → Checked (Over E)
+  quotient_sum n m n' m' =
+      if poly.same o m m' then sum_over n n' m else
+      if poly.is_one o m' then sum_with_polynomial n m n' else
+      if poly.is_one o m then polynomial_with_sum n n' m' else
+      sum_over_product n m n' m'
 
   -- the sum with an element of a level below, on the left or on the right; a sum with 0 forms nothing
   unfoldable pub sum_with : Bool → E → Over E → List E → List E → Checked (Over E)

@@ -106,10 +106,29 @@ fn scaled<E: Arith>(alloc: Global, num: Poly<E>, den: Poly<E>) -> Result<(Poly<E
     Ok((num, den))
 }
 
+/// n/m for coprime n and m, with a monic denominator.
+#[tactic(auto, using(risch_field::proofs::CheckedSteps::stop_passes, risch_field::proofs::CheckedSteps::value_passes))]
+fn scaled_element<E: Arith>(alloc: Global, num: Poly<E>, den: Poly<E>) -> Result<Over<E>, Fail>
+    ensures { Agrees result (spec.scaled_element E.ops num den) }
+{
+    let (num, den) = scaled(alloc, num, den)?;
+    element(num, den)
+}
+
+/// n/m without the common divisor of n and m, with a monic denominator.
+#[tactic(auto, using(risch_field::proofs::CheckedSteps::stop_passes, risch_field::proofs::CheckedSteps::value_passes))]
+fn lowest_terms<E: Arith>(alloc: Global, num: &Poly<E>, den: &Poly<E>) -> Result<Over<E>, Fail>
+    ensures { Agrees result (spec.lowest_terms E.ops num.now den.now) }
+{
+    let divisor = gcd(alloc, num, den)?;
+    let (num, den) = divided(alloc, &divisor, num, den)?;
+    scaled_element(alloc, num, den)
+}
+
 /// The normal form of n/m: without the common divisor of n and m, and with a monic denominator.
 ///
 /// Stops: those of the common divisor, of the divisions by it and of 1/lc(m); Size where the weight is above 65536.
-#[tactic(auto, using(risch_field::proofs::CheckedSteps::stop_passes, risch_field::proofs::CheckedSteps::value_passes), unfolding(crate::specs::Over::normal_form))]
+#[tactic(auto, unfolding(crate::specs::Over::normal_form))]
 pub fn normal_form<E: Arith>(alloc: Global, num: Poly<E>, den: Poly<E>) -> Result<Over<E>, Fail>
     ensures { Agrees result (spec.normal_form E.ops num den) }
 {
@@ -119,15 +138,74 @@ pub fn normal_form<E: Arith>(alloc: Global, num: Poly<E>, den: Poly<E>) -> Resul
     if den.is_one() {
         return element(num, den);
     }
-    let divisor = gcd(alloc, &num, &den)?;
-    let (num, den) = divided(alloc, &divisor, &num, &den)?;
-    let (num, den) = scaled(alloc, num, den)?;
-    element(num, den)
+    lowest_terms(alloc, &num, &den)
+}
+
+/// The normal form of (n + n')/m.
+#[tactic(auto, using(risch_field::proofs::CheckedSteps::stop_passes, risch_field::proofs::CheckedSteps::value_passes))]
+fn sum_over<E: Arith>(
+    alloc: Global,
+    num: &Poly<E>,
+    num2: &Poly<E>,
+    den: &Poly<E>,
+) -> Result<Over<E>, Fail>
+    ensures { Agrees result (spec.sum_over E.ops num.now num2.now den.now) }
+{
+    let sum = num.add(alloc, num2)?;
+    normal_form(alloc, sum, den.copy(alloc)?)
+}
+
+/// (n + n'·m)/m.
+#[tactic(auto, using(risch_field::proofs::CheckedSteps::stop_passes, risch_field::proofs::CheckedSteps::value_passes))]
+fn sum_with_polynomial<E: Arith>(
+    alloc: Global,
+    num: &Poly<E>,
+    den: &Poly<E>,
+    num2: &Poly<E>,
+) -> Result<Over<E>, Fail>
+    ensures { Agrees result (spec.sum_with_polynomial E.ops num.now den.now num2.now) }
+{
+    let right = num2.mul(alloc, den)?;
+    let sum = num.add(alloc, &right)?;
+    element(sum, den.copy(alloc)?)
+}
+
+/// (n·m' + n')/m'.
+#[tactic(auto, using(risch_field::proofs::CheckedSteps::stop_passes, risch_field::proofs::CheckedSteps::value_passes))]
+fn polynomial_with_sum<E: Arith>(
+    alloc: Global,
+    num: &Poly<E>,
+    num2: &Poly<E>,
+    den2: &Poly<E>,
+) -> Result<Over<E>, Fail>
+    ensures { Agrees result (spec.polynomial_with_sum E.ops num.now num2.now den2.now) }
+{
+    let left = num.mul(alloc, den2)?;
+    let sum = left.add(alloc, num2)?;
+    element(sum, den2.copy(alloc)?)
+}
+
+/// The normal form of (n·m' + n'·m)/(m·m').
+#[tactic(auto, using(risch_field::proofs::CheckedSteps::stop_passes, risch_field::proofs::CheckedSteps::value_passes))]
+fn sum_over_product<E: Arith>(
+    alloc: Global,
+    num: &Poly<E>,
+    den: &Poly<E>,
+    num2: &Poly<E>,
+    den2: &Poly<E>,
+) -> Result<Over<E>, Fail>
+    ensures { Agrees result (spec.sum_over_product E.ops num.now den.now num2.now den2.now) }
+{
+    let left = num.mul(alloc, den2)?;
+    let right = num2.mul(alloc, den)?;
+    let sum = left.add(alloc, &right)?;
+    let product = den.mul(alloc, den2)?;
+    normal_form(alloc, sum, product)
 }
 
 /// n/m + n'/m': the normal form of (n + n')/m where m = m', (n + n'·m)/m where m' = 1, (n·m' + n')/m' where m = 1, and else the
 /// normal form of (n·m' + n'·m)/(m·m').
-#[tactic(auto, using(risch_field::proofs::CheckedSteps::stop_passes, risch_field::proofs::CheckedSteps::value_passes), unfolding(crate::specs::Over::quotient_sum))]
+#[tactic(auto, unfolding(crate::specs::Over::quotient_sum))]
 fn quotient_sum<E: Arith>(
     alloc: Global,
     num: &Poly<E>,
@@ -138,24 +216,15 @@ fn quotient_sum<E: Arith>(
     ensures { Agrees result (spec.quotient_sum E.ops num.now den.now num2.now den2.now) }
 {
     if den.same(den2) {
-        let sum = num.add(alloc, num2)?;
-        return normal_form(alloc, sum, den.copy(alloc)?);
+        return sum_over(alloc, num, num2, den);
     }
     if den2.is_one() {
-        let right = num2.mul(alloc, den)?;
-        let sum = num.add(alloc, &right)?;
-        return element(sum, den.copy(alloc)?);
+        return sum_with_polynomial(alloc, num, den, num2);
     }
     if den.is_one() {
-        let left = num.mul(alloc, den2)?;
-        let sum = left.add(alloc, num2)?;
-        return element(sum, den2.copy(alloc)?);
+        return polynomial_with_sum(alloc, num, num2, den2);
     }
-    let left = num.mul(alloc, den2)?;
-    let right = num2.mul(alloc, den)?;
-    let sum = left.add(alloc, &right)?;
-    let product = den.mul(alloc, den2)?;
-    normal_form(alloc, sum, product)
+    sum_over_product(alloc, num, den, num2, den2)
 }
 
 /// e + n/m, or n/m + e, for e in E; for e = 0 nothing is formed.
