@@ -1,5 +1,6 @@
 pub mod PowerTraceRules
 pub mod PowerTraceSteps
+pub mod PushSteps
 pub mod RemainderRules
 pub mod RemainderSteps
 pub mod SquareFreeParts

@@ -25,7 +25,6 @@ pub fn next_power(alloc: Global, modulus: &Inner, of: &Inner, power: &Inner) -> 
 }
 
 /// The trace of u, which is given, and those of u², u³, .., as many as `steps`.
-#[tactic(auto, using(crate::proofs::PowerTraceSteps::stops))]
 fn further_traces(
     alloc: Global,
     modulus: &Inner,

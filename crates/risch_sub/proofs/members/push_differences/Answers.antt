@@ -1,4 +1,5 @@
 use Rattle.std.proofs.Common.{◌∙◌, ◌≡◌, min, length, arith}
+use Rattle.risch_sub.proofs.PushSteps.{differences_kept, differences_stop}
 use Rattle.risch_sub.proofs.RemainderSteps.{differences_end}
 use Rattle.risch_sub.proofs.members.push_differences.Goals as goal
 
@@ -9,3 +10,12 @@ returns c =
     c.loop-i.invariant
     ∙ differences_end c.loop-i.to.items c.args.left.now c.args.right.now c.push_copies.new.to.items c.push_negatives.new.to.items c.loop-i.i shorter
     (rw end_is (c.in_ok-push_copies.ensures)) (rw end_is (c.in_ok-push_negatives.ensures))
+
+pub returns-in_err-difference : goal.returns-in_err-difference
+returns-in_err-difference c =
+    differences_stop _ _ _ _ c.loop-i.invariant c.loop-i-test.true c.min-both.ensures c.index-left-i.is c.index-right-i.is
+    c.in_err-difference.field-0.0 c.from_residual.result _ c.in_err-difference.ensures c.from_residual.ensures.1
+
+pub loop-i-preserved : goal.loop-i-preserved
+loop-i-preserved c =
+    differences_kept _ _ _ _ c.loop-i.invariant c.loop-i-test.true c.min-both.ensures c.index-left-i.is c.index-right-i.is c.in_ok-difference.ensures c.in_ok-push.ensures.items

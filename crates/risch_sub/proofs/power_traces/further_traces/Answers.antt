@@ -1,13 +1,12 @@
-use Rattle.std.proofs.Common.{◌≡◌, ◌∙◌, ◌+◌, ◌-◌, ◌<◌, ◌++◌, ◌∷◌, [], refl, arith}
-use Rattle.risch_sub.proofs.PowerTraceSteps.{further_traces-more}
+use Rattle.risch_sub.proofs.PowerTraceSteps.{traces_kept, power_stops, trace_stops}
 use Rattle.risch_sub.proofs.power_traces.further_traces.Goals as goal
 
+pub returns-in_err-next : goal.returns-in_err-next
+returns-in_err-next c = power_stops _ _ _ _ _ _ c.loop-step-test.true c.loop-step.invariant c.in_err-next.field-0.0 c.from_residual-in_err-next.result c.in_err-next.ensures c.from_residual-in_err-next.ensures.1
+
+pub returns-in_err-value : goal.returns-in_err-value
+returns-in_err-value c =
+    trace_stops _ _ _ _ _ _ c.loop-step-test.true c.loop-step.invariant c.in_err-value.field-0.0 c.from_residual-in_err-value.result c.in_ok-next.ensures c.in_err-value.ensures c.from_residual-in_err-value.ensures.1
+
 pub loop-step-preserved : goal.loop-step-preserved
-loop-step-preserved c =
-    let left = c.args.steps - c.loop-step._step in
-    let some : 0 < left = omega arith in
-    let less : left - 1 ≡ c.args.steps - (c.loop-step._step + 1) = omega arith in
-    let formed : c.push-in-loop-step.new.self ≡ c.loop-step.traces ++ c.in_ok-value.value ∷ [] = c.in_ok-push-2.ensures.ok in
-    c.loop-step.invariant
-    ∙ further_traces-more c.args.modulus.now c.args.of.now left c.loop-step.traces c.loop-step.power c.in_ok-next.next c.in_ok-value.value some c.in_ok-next.ensures c.in_ok-value.ensures
-    ∙ rw (less, formed) refl
+loop-step-preserved c = traces_kept _ _ _ _ _ _ c.loop-step-test.true c.loop-step.invariant c.in_ok-next.ensures c.in_ok-value.ensures c.in_ok-push-2.ensures.ok
