@@ -4,13 +4,15 @@
 --     differences_end      the rest of the longer polynomial
 --     leading-is, divisors_more, divisors_stop      the content
 --     left-is, left_stops, right_stops, step_formed, pseudo_steps-more, pseudo_steps_stop      the pseudo-division
---     sequence_done, sequence_zero, sequence-more, remainder_stops, part_stops      the sequence
+--     sequence_small, sequence_over, sequence_zero, sequence_kept, remainder_stops, part_stops      the sequence
 use Rattle.std.specs.Prelude.{nat_le, replicate}
-use Rattle.std.proofs.Common.{◌≡◌, refl, sym, ap, ◌∙◌, ℕ, zero, suc, ◌+◌, ◌-◌, ◌≤◌, ◌<◌, min, leb, Bool, true, false, List, [], ◌∷◌, ◌++◌, map, take, drop, length, get_or, Ok, Err, arith, append_assoc, append-nil, length-append, length-drop, ◌⊎◌, inl, inr}
+use Rattle.std.specs.Result.{IsErrAnd}
+use Rattle.std.proofs.Common.{◌≡◌, refl, sym, ap, ◌∙◌, ℕ, zero, suc, ◌+◌, ◌-◌, ◌≤◌, ◌<◌, min, leb, Bool, true, false, List, [], ◌∷◌, ◌++◌, map, take, drop, length, get_or, Result, Ok, Err, arith, append_assoc, append-nil, length-append, length-drop, ◌⊎◌, inl, inr}
 use Rattle.std.proofs.lemmas.Bool.{leb-true, leb-false}
 use Rattle.std.proofs.lemmas.Bool.Decides.{nat_tests}
 use Rattle.std.proofs.lemmas.List.{take_all, take_min, take_more}
-use Rattle.risch_field.specs.Checked.{Checked, and_then, IsStopOf}
+use Rattle.std.proofs.lemmas.Result.{err_from_is_err_and}
+use Rattle.risch_field.specs.Checked.{Checked, Agrees, and_then, IsStopOf}
 use Rattle.risch_field.specs.declared.Fail.{Fail}
 use Rattle.risch_field.proofs.CheckedSteps.{stop_passes}
 use Rattle.risch_polynomial.specs.Poly as poly
@@ -202,34 +204,50 @@ above least n h = grind (arith, nat_tests)
 within : (least n : ℕ) → n ≤ least + 1 → nat_le n (least + 1) ≡ true
 within least n h = grind (arith, nat_tests)
 
-module _ (least : ℕ) (members : List Member) (a b : Member) where
-  pub sequence_done : (steps : ℕ) → length b ≤ least + 1 → remainders_from least steps members a b ≡ Ok members
-  sequence_done zero h = refl
-  sequence_done (suc steps) h = rw (within least (length b) h) refl
+small : (least : ℕ) (members : List Member) (a b : Member) (steps : ℕ) → length b ≤ least + 1 → remainders_from least steps members a b ≡ Ok members
+small least members a b zero h = refl
+small least members a b (suc steps) h = rw (within least (length b) h) refl
 
-  pub sequence_zero : (steps : ℕ) (r : Member) → 0 < steps → least + 1 < length b → pseudo_remainder a b ≡ Ok r → length r ≡ 0 → remainders_from least steps members a b ≡ Ok members
-  sequence_zero zero r some large e none = absurd (omega arith)
-  sequence_zero (suc steps) [] some large e none = rw (above least (length b) large, e) refl
-  sequence_zero (suc steps) (p ∷ r) some large e none = absurd (omega arith)
+-- at the step i of n, with a and b after the members
+module _ (least n i : ℕ) (members : List Member) (a b : Member) {rule : Checked (List Member)} (so_far : rule ≡ remainders_from least (n - i) (members ++ a ∷ b ∷ []) a b) where
+  pub sequence_small : (result : Result (List Member) Fail) → length b ≤ least + 1 → Agrees result (Ok (members ++ a ∷ b ∷ [])) → Agrees result rule
+  sequence_small result h e = rw (so_far, small least (members ++ a ∷ b ∷ []) a b (n - i) h) e
 
-  pub sequence-more : (steps : ℕ) (r m : Member) → 0 < steps → least + 1 < length b → pseudo_remainder a b ≡ Ok r → 0 < length r → primitive_part r ≡ Ok m →
-      remainders_from least steps members a b ≡ remainders_from least (steps - 1) (members ++ m ∷ []) b m
-  sequence-more zero r m some large e more f = absurd (omega arith)
-  sequence-more (suc steps) [] m some large e more f = absurd (omega arith)
-  sequence-more (suc steps) (p ∷ r) m some large e more f =
-      let less : suc steps - 1 ≡ steps = omega arith in
-      rw (less, above least (length b) large, e, f) refl
+  pub sequence_over : (result : Result (List Member) Fail) → n ≤ i → Agrees result (Ok (members ++ a ∷ b ∷ [])) → Agrees result rule
+  sequence_over result h e =
+      let none : n - i ≡ 0 = omega arith in
+      rw (so_far, none) e
 
-  pub remainder_stops : (stop : Fail) (steps : ℕ) → 0 < steps → least + 1 < length b → IsStopOf stop (pseudo_remainder a b) → IsStopOf stop (remainders_from least steps members a b)
-  remainder_stops stop zero some large e = absurd (omega arith)
-  remainder_stops stop (suc steps) some large e =
-      rw (above least (length b) large) (stop_passes stop (pseudo_remainder a b) (next_member (λ m. remainders_from least steps (members ++ m ∷ []) b m) members) e)
+  -- a and b as they are read
+  module _ {read_a read_b : Member} (below : i < n) (large : least + 1 < length b) (is_a : read_a ≡ a) (is_b : read_b ≡ b) where
+    next_remainder : rule
+        ≡ and_then (pseudo_remainder read_a read_b) (next_member (λ m. remainders_from least (n - (i + 1)) ((members ++ a ∷ b ∷ []) ++ m ∷ []) b m) (members ++ a ∷ b ∷ []))
+    next_remainder =
+        let one_less : n - i ≡ suc (n - (i + 1)) = omega arith in
+        so_far ∙ ap (λ k. remainders_from least k (members ++ a ∷ b ∷ []) a b) one_less ∙ rw (above least (length b) large, is_a, is_b) refl
 
-  pub part_stops : (stop : Fail) (steps : ℕ) (r : Member) → 0 < steps → least + 1 < length b → pseudo_remainder a b ≡ Ok r → 0 < length r → IsStopOf stop (primitive_part r) →
-      IsStopOf stop (remainders_from least steps members a b)
-  part_stops stop zero r some large e more f = absurd (omega arith)
-  part_stops stop (suc steps) [] some large e more f = absurd (omega arith)
-  part_stops stop (suc steps) (p ∷ r) some large e more f =
-      rw (above least (length b) large, e) (stop_passes stop (primitive_part (p ∷ r)) (λ m. remainders_from least steps (members ++ m ∷ []) b m) f)
+    pub remainder_stops : (stop : Fail) (result : Result (List Member) Fail) → IsStopOf stop (pseudo_remainder read_a read_b) → IsErrAnd result (λ s. s ≡ stop) → Agrees result rule
+    remainder_stops stop result e is_err =
+        let s = err_from_is_err_and result is_err in
+        rw (s.1, s.2, next_remainder)
+        (stop_passes stop (pseudo_remainder read_a read_b) (next_member (λ m. remainders_from least (n - (i + 1)) ((members ++ a ∷ b ∷ []) ++ m ∷ []) b m) (members ++ a ∷ b ∷ [])) e)
 
-pub ruleset sequences = (sequence_done, remainder_stops, part_stops)
+    pub sequence_zero : (r : Member) (result : Result (List Member) Fail) → pseudo_remainder read_a read_b ≡ Ok r → length r ≡ 0 → Agrees result (Ok (members ++ a ∷ b ∷ [])) → Agrees result rule
+    sequence_zero [] result e none h = rw (next_remainder, e) h
+    sequence_zero (p ∷ r) result e none h = absurd (omega arith)
+
+    next_part : (r : Member) → pseudo_remainder read_a read_b ≡ Ok r → 0 < length r → rule ≡ and_then (primitive_part r) (λ m. remainders_from least (n - (i + 1)) ((members ++ a ∷ b ∷ []) ++ m ∷ []) b m)
+    next_part [] e some = absurd (omega arith)
+    next_part (p ∷ r) e some = next_remainder ∙ rw e refl
+
+    module _ {r read_r : Member} (e : pseudo_remainder read_a read_b ≡ Ok r) (some : 0 < length r) (is_r : read_r ≡ r) where
+      pub part_stops : (stop : Fail) (result : Result (List Member) Fail) → IsStopOf stop (primitive_part read_r) → IsErrAnd result (λ s. s ≡ stop) → Agrees result rule
+      part_stops stop result h is_err =
+          let s = err_from_is_err_and result is_err in
+          rw (s.1, s.2, next_part r e some, ← is_r) (stop_passes stop (primitive_part read_r) (λ m. remainders_from least (n - (i + 1)) ((members ++ a ∷ b ∷ []) ++ m ∷ []) b m) h)
+
+      pub sequence_kept : {m : Member} {pushed : List Member} → primitive_part read_r ≡ Ok m → pushed ≡ members ++ a ∷ [] → rule ≡ remainders_from least (n - (i + 1)) (pushed ++ b ∷ m ∷ []) b m
+      sequence_kept {m} h is_pushed = next_part r e some ∙ rw (← is_r, h, is_pushed, one_more m) refl
+        where
+          one_more : (m : Member) → (members ++ a ∷ b ∷ []) ++ m ∷ [] ≡ (members ++ a ∷ []) ++ b ∷ m ∷ []
+          one_more m = append_assoc members (a ∷ b ∷ []) (m ∷ []) ∙ sym (append_assoc members (a ∷ []) (b ∷ m ∷ []))

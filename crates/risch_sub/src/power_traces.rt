@@ -38,10 +38,9 @@ fn further_traces(
     traces.push(first)?;
     let mut power = of.copy(alloc)?;
     for _step in 0..steps {
-        let next = next_power(alloc, modulus, of, &power)?;
-        let value = trace(alloc, modulus, &next)?;
+        power = next_power(alloc, modulus, of, &power)?;
+        let value = trace(alloc, modulus, &power)?;
         traces.push(value)?;
-        power = next;
     }
     Ok(traces)
 }

@@ -1,6 +1,6 @@
 //! The primitive remainder sequence of polynomials in t over the polynomials in z (Bronstein, Symbolic Integration I, section 1.5).
 
-ghost use Rattle.std.specs.Prelude.{◌≡◌, ◌≤◌, ◌<◌, ◌+◌, ◌++◌, ℕ, [], ◌∷◌, length, All, IfOk};
+ghost use Rattle.std.specs.Prelude.{◌≤◌, ◌<◌, ◌+◌, ◌++◌, ℕ, [], ◌∷◌, length, All, IfOk, Ok};
 ghost use Rattle.risch_field.specs.Checked.{Agrees};
 ghost use Rattle.risch_element_theory.specs.WholeTower.{AllWithin};
 ghost use Rattle.risch_sub.specs.RemainderSequence as spec;
@@ -9,7 +9,7 @@ use crate::contents::primitive_part;
 use crate::members::{Member, copy, difference, multiple, wrapped_members};
 use crate::polynomials::{Inner, unwrapped};
 use risch_elem::{Fail, Items, PolyList};
-use std::alloc::{AllocError, Global};
+use std::alloc::Global;
 
 /// A polynomial in t over the polynomials in z, as the list of its coefficients from exponent 0.
 pub type ZPoly = PolyList;
@@ -47,12 +47,8 @@ fn pseudo_remainder(alloc: Global, of: &[Inner], by: &[Inner]) -> Result<Member,
 }
 
 /// The members with the two that are formed last.
-fn finished(
-    members: Items<Member>,
-    above: Member,
-    last: Member,
-) -> Result<Items<Member>, AllocError>
-    ensures { IfOk result (λ it. it ≡ members ++ above ∷ last ∷ []) }
+fn finished(members: Items<Member>, above: Member, last: Member) -> Result<Items<Member>, Fail>
+    ensures { Agrees result (Ok (members ++ above ∷ last ∷ [])) }
 {
     let mut members = members;
     members.push(above)?;
@@ -63,7 +59,7 @@ fn finished(
 /// R_0 = d, R_1 = b, .. to the last member that is formed.
 ///
 /// Stops: that of the first value that cannot be formed, of the pseudo-remainders and of their primitive parts.
-#[tactic(auto, using(crate::proofs::RemainderSteps::sequences), unfolding(crate::specs::RemainderSequence::remainders))]
+#[tactic(auto, unfolding(crate::specs::RemainderSequence::remainders))]
 pub fn sequence(alloc: Global, d: Member, b: Member, least: u16) -> Result<Items<Member>, Fail>
     ensures { Agrees result (spec.remainders d b least) }
 {
@@ -72,18 +68,17 @@ pub fn sequence(alloc: Global, d: Member, b: Member, least: u16) -> Result<Items
     let mut last = b;
     for _step in 0..last.len() {
         if last.len() <= usize::from(least) + 1 {
-            return Ok(finished(members, above, last)?);
+            return finished(members, above, last);
         }
         let rest = pseudo_remainder(alloc, above.as_slice(), last.as_slice())?;
         if rest.len() == 0 {
-            return Ok(finished(members, above, last)?);
+            return finished(members, above, last);
         }
-        let next = primitive_part(alloc, rest.as_slice())?;
         members.push(above)?;
         above = last;
-        last = next;
+        last = primitive_part(alloc, rest.as_slice())?;
     }
-    Ok(finished(members, above, last)?)
+    finished(members, above, last)
 }
 
 /// The primitive remainder sequence R_0 = d, R_1 = b, R_2, .. of polynomials in t over the polynomials in z (Bronstein, section 1.5): R_(i+1) is the pseudo-remainder of R_(i-1) by R_i, divided by

@@ -14,7 +14,6 @@ use risch_elem::{Fail, Items, Poly, PolyList};
 use std::alloc::Global;
 
 /// The parts that follow from w and c on, as many as `steps` at most.
-#[tactic(auto, using(crate::proofs::SquareFreeSteps::parts_done, crate::proofs::SquareFreeSteps::stops))]
 fn parts_from(alloc: Global, steps: usize, w: Inner, c: Inner) -> Result<Items<Inner>, Fail>
     ensures { Agrees result (spec.parts_from steps [] w c) }
 {
@@ -27,10 +26,9 @@ fn parts_from(alloc: Global, steps: usize, w: Inner, c: Inner) -> Result<Items<I
         }
         let y = gcd(alloc, &w, &c)?;
         let part = quo(alloc, &w, &y)?;
-        let rest = quo(alloc, &c, &y)?;
         parts.push(part)?;
+        c = quo(alloc, &c, &y)?;
         w = y;
-        c = rest;
     }
     Ok(parts)
 }

@@ -1,25 +1,48 @@
-use Rattle.std.proofs.Common.{◌≡◌, ◌∙◌, ◌+◌, ◌-◌, ◌<◌, ◌++◌, ◌∷◌, [], List, refl, sym, length, Ok, append_assoc, arith}
-use Rattle.risch_sub.specs.RemainderSequence.{Member, pseudo_remainder, primitive_part}
-use Rattle.risch_sub.proofs.RemainderSteps.{sequence-more}
+use Rattle.std.proofs.Common.{◌+◌, ◌<◌, ◌≤◌, length, arith}
+use Rattle.risch_sub.specs.RemainderSequence.{remainders}
+use Rattle.risch_sub.proofs.RemainderSteps.{sequence_small, sequence_over, sequence_zero, sequence_kept, remainder_stops, part_stops}
 use Rattle.risch_sub.proofs.remainder_sequence.sequence.Goals as goal
 
--- the last two and one more
-one_more : (members : List Member) (a b c : Member) → (members ++ a ∷ b ∷ []) ++ c ∷ [] ≡ (members ++ a ∷ []) ++ b ∷ c ∷ []
-one_more members a b c = append_assoc members (a ∷ b ∷ []) (c ∷ []) ∙ sym (append_assoc members (a ∷ []) (b ∷ c ∷ []))
+pub returns-then-len-from : goal.returns-then-len-from
+unfolding remainders
+returns-then-len-from c =
+    let small : length c.loop-step.last ≤ c.args.least + 1 = omega arith in
+    sequence_small _ _ _ _ _ _ c.loop-step.invariant c.finished.result small c.finished.ensures
+
+pub returns-then-len-eq0 : goal.returns-then-len-eq0
+unfolding remainders
+returns-then-len-eq0 c =
+    let below : c.loop-step._step < length c.args.b = omega arith in
+    let large : c.args.least + 1 < length c.loop-step.last = omega arith in
+    sequence_zero _ _ _ _ _ _ c.loop-step.invariant below large c.as_slice.ensures c.as_slice-in-loop-step.ensures c.in_ok-rest.rest c.finished-then-len-eq0.result c.in_ok-rest.ensures (omega arith) c.finished-then-len-eq0.ensures
+
+pub returns-in_err-rest : goal.returns-in_err-rest
+unfolding remainders
+returns-in_err-rest c =
+    let below : c.loop-step._step < length c.args.b = omega arith in
+    let large : c.args.least + 1 < length c.loop-step.last = omega arith in
+    remainder_stops _ _ _ _ _ _ c.loop-step.invariant below large c.as_slice.ensures c.as_slice-in-loop-step.ensures
+    c.in_err-rest.field-0.0 c.from_residual.result c.in_err-rest.ensures c.from_residual.ensures.1
+
+pub returns-in_err-last : goal.returns-in_err-last
+unfolding remainders
+returns-in_err-last c =
+    let below : c.loop-step._step < length c.args.b = omega arith in
+    let large : c.args.least + 1 < length c.loop-step.last = omega arith in
+    let some : 0 < length c.in_ok-rest.rest = omega arith in
+    part_stops _ _ _ _ _ _ c.loop-step.invariant below large c.as_slice.ensures c.as_slice-in-loop-step.ensures c.in_ok-rest.ensures some c.as_slice-in-loop-step-2.ensures
+    c.in_err-last.field-0.0 c.from_residual-in_err-last.result c.in_err-last.ensures c.from_residual-in_err-last.ensures.1
 
 pub loop-step-preserved : goal.loop-step-preserved
 loop-step-preserved c =
-    let a = c.loop-step.above in
-    let b = c.loop-step.last in
-    let r = c.in_ok-rest.rest in
-    let m = c.in_ok-next.next in
-    let left = length c.args.b - c.loop-step._step in
-    let some : 0 < left = omega arith in
-    let less : left - 1 ≡ length c.args.b - (c.loop-step._step + 1) = omega arith in
-    let large : c.args.least + 1 < length b = omega arith in
-    let more : 0 < length r = omega arith in
-    let is_rest : pseudo_remainder a b ≡ Ok r = rw (c.as_slice.ensures, c.as_slice-in-loop-step.ensures) at c.in_ok-rest.ensures in
-    let is_next : primitive_part r ≡ Ok m = rw c.as_slice-in-loop-step-2.ensures at c.in_ok-next.ensures in
-    let formed : c.push.new.self ≡ c.loop-step.members ++ a ∷ [] = c.in_ok-push.ensures.ok in
-    c.loop-step.invariant ∙ sequence-more c.args.least (c.loop-step.members ++ a ∷ b ∷ []) a b left r m some large is_rest more is_next
-    ∙ rw (less, formed) (rw (one_more c.loop-step.members a b m) refl)
+    let below : c.loop-step._step < length c.args.b = omega arith in
+    let large : c.args.least + 1 < length c.loop-step.last = omega arith in
+    let some : 0 < length c.in_ok-rest.rest = omega arith in
+    sequence_kept _ _ _ _ _ _ c.loop-step.invariant below large c.as_slice.ensures c.as_slice-in-loop-step.ensures c.in_ok-rest.ensures some c.as_slice-in-loop-step-2.ensures
+    c.in_ok-last.ensures c.in_ok-push.ensures.ok
+
+pub returns : goal.returns
+unfolding remainders
+returns c =
+    let past : length c.args.b ≤ c.loop-step._step = omega arith in
+    sequence_over _ _ _ _ _ _ c.loop-step.invariant c.finished-2.result past c.finished-2.ensures
