@@ -5,3 +5,4 @@ pub mod LevelsSoFar
 pub mod LogarithmSteps
 pub mod MemberSteps
 pub mod NewtonSteps
+pub mod PushSteps
