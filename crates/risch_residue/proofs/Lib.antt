@@ -5,4 +5,5 @@ pub mod LevelsSoFar
 pub mod LogarithmSteps
 pub mod MemberSteps
 pub mod NewtonSteps
+pub mod PartSteps
 pub mod PushSteps
