@@ -1,6 +1,8 @@
--- The steps of the rule of the logarithms of the square-free parts, at the part R at i.
+-- The steps of the rule of the logarithms of the square-free parts, at the part R at i, and of the argument for R.
+use Rattle.std.specs.Prelude.{nat_eq}
 use Rattle.std.specs.Result.{IsErrAnd}
-use Rattle.std.proofs.Common.{◌≡◌, ℕ, ◌+◌, ◌<◌, ◌≤◌, Bool, true, false, List, [], ◌∷◌, ◌++◌, Option, drop, length, get_or, Result, Ok, ◌∙◌, refl, sym, add-one}
+use Rattle.std.proofs.Common.{◌≡◌, ℕ, ◌+◌, ◌<◌, ◌≤◌, Bool, true, false, List, [], ◌∷◌, ◌++◌, Option, Some, drop, length, get_or, Result, Ok, ◌∙◌, refl, sym, add-one, suc, arith}
+use Rattle.std.proofs.lemmas.Bool.Decides.{nat_tests}
 use Rattle.std.proofs.lemmas.List.{drop_more, drop_all}
 use Rattle.std.proofs.lemmas.Result.{err_from_is_err_and}
 use Rattle.risch_field.specs.Checked.{Checked, and_then, Agrees, IsStopOf}
@@ -11,7 +13,7 @@ use Rattle.risch_level.specs.Levels.{Element, element}
 use Rattle.risch_tower.specs.declared.level.Level.{Level}
 use Rattle.risch_rootsum.specs.declared.integral.LogPart.{LogPart}
 use Rattle.risch_sub.specs.RemainderSequence.{InZ, Member}
-use Rattle.risch_logarithm_rules.specs.Logarithms.{argument_for, logarithm, logarithms_from}
+use Rattle.risch_logarithm_rules.specs.Logarithms.{member_of_degree, members_or, argument_of, argument_for, logarithm, logarithms_from}
 
 module _ (tower : List Level) (level : ℕ) (a d : List Element) (i : ℕ) (members : Option (List Member)) (logs : List LogPart) (parts : List InZ) {rule : Checked (List LogPart)}
     (so_far : rule ≡ logarithms_from tower level a d (i + 1) members logs (drop i parts)) where
@@ -48,3 +50,29 @@ module _ (tower : List Level) (level : ℕ) (a d : List Element) (i : ℕ) (memb
 
         pub logarithms_kept : {l : LogPart} {next : List LogPart} → logarithm level R read_S ≡ Ok l → next ≡ logs ++ l ∷ [] → rule ≡ logarithms_from tower level a d (i + 1 + 1) formed next (drop (i + 1) parts)
         logarithms_kept f pushed = next_logarithm ∙ rw (f, pushed) refl
+
+-- the argument for R, of a degree other than that of d
+not_equal : (m n : ℕ) → (m + 1 ≡ n → ⊥) → nat_eq (suc m) n ≡ false
+not_equal m n h = grind (arith, nat_tests)
+
+module _ (tower : List Level) (level : ℕ) (a d : List Element) (members : Option (List Member)) (degree : ℕ) (R : InZ) (other : degree + 1 ≡ length d → ⊥) where
+  next_members : argument_for tower level a d members degree R
+      ≡ and_then (members_or tower level a d members degree) (λ ms. and_then (argument_of (member_of_degree degree ms) R) (λ S. Ok (S, Some ms)))
+  unfolding argument_for
+  next_members = rw (not_equal degree (length d) other) refl
+
+  pub members_stop : (stop : Fail) (result : Result (Member × Option (List Member)) Fail) → IsStopOf stop (members_or tower level a d members degree) → IsErrAnd result (λ s. s ≡ stop) →
+      Agrees result (argument_for tower level a d members degree R)
+  members_stop stop result e is_err =
+      let s = err_from_is_err_and result is_err in
+      rw (s.1, s.2, next_members) (stop_passes stop (members_or tower level a d members degree) (λ ms. and_then (argument_of (member_of_degree degree ms) R) (λ S. Ok (S, Some ms))) e)
+
+  module _ {ms read_ms : List Member} (e : members_or tower level a d members degree ≡ Ok ms) (is_ms : read_ms ≡ ms) where
+    pub form_stops : (stop : Fail) (result : Result (Member × Option (List Member)) Fail) → IsStopOf stop (argument_of (member_of_degree degree read_ms) R) → IsErrAnd result (λ s. s ≡ stop) →
+        Agrees result (argument_for tower level a d members degree R)
+    form_stops stop result f is_err =
+        let s = err_from_is_err_and result is_err in
+        rw (s.1, s.2, next_members, e, ← is_ms) (stop_passes stop (argument_of (member_of_degree degree read_ms) R) (λ S. Ok (S, Some read_ms)) f)
+
+    pub argument_formed : {S : Member} → argument_of (member_of_degree degree read_ms) R ≡ Ok S → argument_for tower level a d members degree R ≡ Ok (S, Some ms)
+    argument_formed f = next_members ∙ rw (e, ← is_ms, f) refl
