@@ -55,11 +55,12 @@ module _ (tower : List Level) (level : ℕ) (a d : List Element) (i : ℕ) (memb
 not_equal : (m n : ℕ) → (m + 1 ≡ n → ⊥) → nat_eq (suc m) n ≡ false
 not_equal m n h = grind (arith, nat_tests)
 
-module _ (tower : List Level) (level : ℕ) (a d : List Element) (members : Option (List Member)) (degree : ℕ) (R : InZ) (other : degree + 1 ≡ length d → ⊥) where
+module _ (tower : List Level) (level : ℕ) (a d : List Element) (members : Option (List Member)) (degree : ℕ) (R : InZ)
+    {read : ℕ} {l m : List Element} (other : read + 1 ≡ length l → ⊥) (is_read : read ≡ degree) (is_l : l ≡ m) (is_m : m ≡ d) where
   next_members : argument_for tower level a d members degree R
       ≡ and_then (members_or tower level a d members degree) (λ ms. and_then (argument_of (member_of_degree degree ms) R) (λ S. Ok (S, Some ms)))
   unfolding argument_for
-  next_members = rw (not_equal degree (length d) other) refl
+  next_members = rw (not_equal degree (length d) (rw (is_read, is_l, is_m) at other)) refl
 
   pub members_stop : (stop : Fail) (result : Result (Member × Option (List Member)) Fail) → IsStopOf stop (members_or tower level a d members degree) → IsErrAnd result (λ s. s ≡ stop) →
       Agrees result (argument_for tower level a d members degree R)

@@ -1,11 +1,10 @@
-use Rattle.std.proofs.Common.{◌≡◌, ◌+◌, length, map, All, refl, sym, subst, arith}
+use Rattle.std.proofs.Common.{◌≡◌, map, All, sym, subst}
 use Rattle.risch_element_theory.specs.WholeTower.{AllWithin}
 use Rattle.risch_sub.specs.RemainderSequence.{Member}
 use Rattle.risch_logarithm_rules.specs.Logarithms.{constant_in_z}
 use Rattle.risch_residue.proofs.MemberSteps.{constants-within}
 use Rattle.risch_residue.proofs.PartSteps.{members_stop, form_stops, argument_formed}
 use Rattle.risch_residue.proofs.logarithms.argument_for.Goals as goal
-use Rattle.risch_residue.proofs.logarithms.argument_for.Goals.{Else-from-coefficients}
 
 pub returns-then-from-coefficients-clause-argument : goal.returns-then-from-coefficients-clause-argument
 returns-then-from-coefficients-clause-argument c =
@@ -17,21 +16,15 @@ returns-clause-argument c =
     let kept : All (All (AllWithin c.args.level)) c.as_slice.result.now = rw c.as_slice.ensures c.in_ok-formed.ensures.within in
     c.in_ok-argument.ensures.within c.args.level kept c.requires.modulus
 
--- the degree is another than that of d
-other : (c : Else-from-coefficients) → c.args.degree + 1 ≡ length c.args.of.now.denominator → ⊥
-other c e =
-    let size : length c.coefficients-coefficients.result.now ≡ length c.args.of.now.denominator = rw (c.coefficients-coefficients.ensures.value, c.inner.ensures.value) refl in
-    c.if-from-coefficients.false (omega arith)
-
 pub returns-in_err-formed-clause-rule : goal.returns-in_err-formed-clause-rule
 returns-in_err-formed-clause-rule c =
-    members_stop _ _ _ _ _ _ _ (other (goal.at.returns-in_err-formed-clause-rule c).Else-from-coefficients) c.in_err-formed.field-0.0 c.from_residual-in_err-formed.result c.in_err-formed.ensures.rule
+    members_stop _ _ _ _ _ _ _ c.if-from-coefficients.false c.from.ensures c.coefficients-coefficients.ensures.value c.inner.ensures.value c.in_err-formed.field-0.0 c.from_residual-in_err-formed.result c.in_err-formed.ensures.rule
     c.from_residual-in_err-formed.ensures.1
 
 pub returns-in_err-argument-clause-rule : goal.returns-in_err-argument-clause-rule
 returns-in_err-argument-clause-rule c =
-    form_stops _ _ _ _ _ _ _ (other (goal.at.returns-in_err-argument-clause-rule c).Else-from-coefficients) c.in_ok-formed.ensures.rule c.as_slice.ensures c.in_err-argument.field-0.0 c.from_residual-in_err-argument.result
+    form_stops _ _ _ _ _ _ _ c.if-from-coefficients.false c.from.ensures c.coefficients-coefficients.ensures.value c.inner.ensures.value c.in_ok-formed.ensures.rule c.as_slice.ensures c.in_err-argument.field-0.0 c.from_residual-in_err-argument.result
     c.in_err-argument.ensures.rule c.from_residual-in_err-argument.ensures.1
 
 pub returns-clause-rule : goal.returns-clause-rule
-returns-clause-rule c = argument_formed _ _ _ _ _ _ _ (other (goal.at.returns-clause-rule c).Else-from-coefficients) c.in_ok-formed.ensures.rule c.as_slice.ensures c.in_ok-argument.ensures.rule
+returns-clause-rule c = argument_formed _ _ _ _ _ _ _ c.if-from-coefficients.false c.from.ensures c.coefficients-coefficients.ensures.value c.inner.ensures.value c.in_ok-formed.ensures.rule c.as_slice.ensures c.in_ok-argument.ensures.rule
