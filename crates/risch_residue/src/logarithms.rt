@@ -143,9 +143,11 @@ pub(crate) fn logarithms(
     ensures { Agrees result (spec.logarithms tower.now level h.now traces.now) }
 {
     let _height = tower.height();
-    let polynomial = characteristic_polynomial(alloc, traces)?;
-    let _coefficients = polynomial.coefficients();
-    let parts = square_free_parts(alloc, &polynomial)?;
+    let parts = {
+        let polynomial = characteristic_polynomial(alloc, traces)?;
+        let _coefficients = polynomial.coefficients();
+        square_free_parts(alloc, &polynomial)?
+    };
     let of = Quotient {
         numerator: h.num_poly(alloc, level)?,
         denominator: h.den_poly(alloc, level)?,
