@@ -1,6 +1,6 @@
 -- The values of logarithms, one after the other.
 use Rattle.std.proofs.Common.{◌≡◌, ℕ, pos, Bool, true, false, suc, ◌+◌, ◌≤◌, ◌<◌, List, [], ◌∷◌, ◌++◌, length, map, drop, get_or, Some, None, Option, Ok, Err, refl, sym, ap, ◌∙◌, arith, drop-cons, add-one, length-append}
-use Rattle.std.specs.Prelude.{All, nat_le, nat_lt, nat_eq, ◌&&◌}
+use Rattle.std.specs.Prelude.{if◌then◌else◌, All, nat_le, nat_lt, nat_eq, ◌&&◌}
 use Rattle.std.specs.Ordering.{int_eq}
 use Rattle.std.proofs.lemmas.Bool.{leb-true, ltb-true, eqb-true}
 use Rattle.std.proofs.lemmas.Bool.Decides.{Decides-int_eq}
@@ -11,7 +11,10 @@ use Rattle.risch_field.specs.Ground.{ground}
 use Rattle.risch_polynomial.specs.Poly as poly
 use Rattle.risch_level.specs.Levels.{Element, element}
 use Rattle.risch_level.specs.Accessors.{as_number}
-use Rattle.risch_element_theory.specs.WholeTower.{IsPolynomial, AllWithin}
+use Rattle.risch_element_theory.specs.WholeTower.{IsElement, IsPolynomial, Within, AllWithin}
+use Rattle.risch_element_theory.proofs.ElementPolynomials.{trimmed-is_polynomial}
+use Rattle.risch_expression.proofs.Constants.{constant_short, constant_light}
+use Rattle.risch_expression.specs.Evaluation.{constant}
 use Rattle.risch_rootsum.specs.declared.integral.LogPart.{LogPart}
 use Rattle.risch_expression.specs.Results.{and_next}
 use Rattle.risch_text.specs.Certified.{LogLine}
@@ -79,6 +82,24 @@ shaped_form n r s numbers e kept_r kept_s light shape within =
       };
       argument_kept = kept_s;
     }
+
+-- ---- constants
+pub constant_kept : (u : Element) → IsElement u → IsPolynomial (constant u)
+constant_kept u valid = trimmed-is_polynomial (u ∷ []) (constant u) (valid, tt) (constant_short (u ∷ []) u refl) refl
+
+pub constant_weight : (u : Element) → element.weight u ≤ 65536 → poly.weight element (constant u) ≤ 65536
+constant_weight u small = by_test (element.is_zero u)
+  where
+    by_test : (z : Bool) → poly.weight element (if z then [] else u ∷ []) ≤ 65536
+    by_test true = omega arith
+    by_test false = constant_light (u ∷ []) u refl small
+
+pub constant_within : (n : ℕ) (u : Element) → Within n u → AllWithin n (constant u)
+constant_within n u h = by_test (element.is_zero u)
+  where
+    by_test : (z : Bool) → AllWithin n (if z then [] else u ∷ [])
+    by_test true = tt
+    by_test false = (h, tt)
 
 -- ---- logarithms
 -- Those of the first lines are formed: the rule is the same from here on.

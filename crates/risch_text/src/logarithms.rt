@@ -1,6 +1,8 @@
 //! The values of logarithms.
 
-ghost use Rattle.std.specs.Prelude.{◌≡◌, ◌≤◌, ℕ, true, false, List, [], map, length, All, IfOk};
+ghost use Rattle.std.specs.Prelude.{◌≡◌, ◌≤◌, ℕ, true, false, List, [], ◌∷◌, map, length, All, IfOk};
+ghost use Rattle.risch_frac.specs.Fraction as fraction;
+ghost use Rattle.risch_field.specs.Ground.{ground};
 ghost use Rattle.risch_polynomial.specs.Poly as poly;
 ghost use Rattle.risch_level.specs.Levels.{element};
 ghost use Rattle.risch_element_theory.specs.WholeTower.{IsPolynomial, Within, AllWithin};
@@ -47,32 +49,42 @@ fn polynomial_at(alloc: Global, start: u32, program: &[Step]) -> Result<Poly, Fa
     evaluate(alloc, program).map_err(|fault| Fault::of_value(start, fault))
 }
 
-/// The element as a polynomial in z.
-#[tactic(auto, using(risch_expression::proofs::Constants::constant_trimmed, risch_expression::proofs::Constants::constant_short, risch_expression::proofs::Constants::constant_light))]
-fn constant(alloc: Global, element: Elem) -> Result<Poly, AllocError>
-    ensures value { IfOk result (λ it. it ≡ evaluation.constant element) }
-    ensures within { (n : ℕ) → Within n element → IfOk result (λ it. AllWithin n it) }
+/// The coefficients of a constant polynomial in z from exponent 0, none of 0.
+#[tactic(auto, using(crate::proofs::RootSums::constant_kept, crate::proofs::RootSums::constant_weight))]
+fn constant(alloc: Global, value: Elem) -> Result<ElemList, AllocError>
+    ensures value { IfOk result (λ it. it ≡ evaluation.constant value) }
+    ensures kept { IsPolynomial (evaluation.constant value) }
+    ensures light { poly.weight element (evaluation.constant value) ≤ 65536 }
 {
-    let _weight = element.weight();
+    let _nest = value.nest();
+    let _weight = value.weight();
     let mut coefficients = ElemList::new(alloc);
-    coefficients.push(element)?;
-    Poly::of(coefficients)
+    if value.is_zero() {
+        return Ok(coefficients);
+    }
+    coefficients.push(value)?;
+    Ok(coefficients)
+}
+
+/// The coefficients of z - C from exponent 0.
+fn linear(alloc: Global, root: Frac) -> Result<FracList, AllocError>
+    ensures { IfOk result (λ it. it ≡ fraction.negative root ∷ ground.one ∷ []) }
+{
+    let mut modulus = FracList::new(alloc);
+    modulus.push(root.neg())?;
+    modulus.push(Frac::one())?;
+    Ok(modulus)
 }
 
 /// The coefficients of a polynomial from exponent 0.
-#[tactic(auto, using(risch_element_theory::proofs::PartsRules::items))]
 fn coefficients(alloc: Global, polynomial: &Poly) -> Result<ElemList, AllocError>
     ensures value { IfOk result (λ it. it ≡ polynomial.now) }
     ensures kept { IsPolynomial polynomial.now }
     ensures light { poly.weight element polynomial.now ≤ 65536 }
 {
     let _weight = polynomial.weight();
-    let nested = polynomial.nested(alloc)?;
-    let mut elements = ElemList::new(alloc);
-    for coefficient in nested.coefficients() {
-        elements.push(Elem::of(coefficient.copy(alloc)?))?;
-    }
-    Ok(elements)
+    let copy = polynomial.inner().copy(alloc)?;
+    Ok(ElemList::from_vec(copy.into_coefficients()))
 }
 
 /// The fractions that the elements are, where each is one.
@@ -108,14 +120,13 @@ fn shaped(alloc: Global, start: u32, modulus: &Poly, argument: &Poly) -> Result<
     ensures value { Reads result (spec.shaped start (spec.with_numbers [] modulus.now) argument.now) }
     ensures form { (n : ℕ) → AllWithin n argument.now → IfOk result (IsLogForm n) }
 {
-    let arg = coefficients(alloc, argument)?;
-    let elements = coefficients(alloc, modulus)?;
-    let Some(poly) = as_numbers(alloc, elements.as_slice())? else {
+    let Some(poly) = as_numbers(alloc, modulus.inner().coefficients())? else {
         return Err(Fault::wrong_shape(start));
     };
-    if !has_shape(poly.as_slice(), arg.as_slice()) {
+    if !has_shape(poly.as_slice(), argument.inner().coefficients()) {
         return Err(Fault::wrong_shape(start));
     }
+    let arg = coefficients(alloc, argument)?;
     Ok(LogPart { poly, arg })
 }
 
@@ -136,18 +147,15 @@ fn root_sum(
 }
 
 /// C·log U as the sum over the root C of z - C.
-#[tactic(auto, unfolding(crate::specs::Values::logarithm))]
+#[tactic(auto, using(crate::proofs::RootSums::constant_within), unfolding(crate::specs::Values::logarithm))]
 fn logarithm(alloc: Global, factor: Factor, program: &[Step]) -> Result<LogPart, Fault>
     ensures value { (u : Tree) → program.now ≡ steps u → Reads result (spec.logarithm factor u) }
     ensures form { (n : ℕ) → IsProgramOver n false program.now → IfOk result (IsLogForm n) }
 {
     let factor = factor_value(factor)?;
     let argument = element_at(alloc, 0, program)?;
-    let mut poly = FracList::new(alloc);
-    poly.push(factor.neg())?;
-    poly.push(Frac::one())?;
-    let argument = constant(alloc, argument)?;
-    let arg = coefficients(alloc, &argument)?;
+    let arg = constant(alloc, argument)?;
+    let poly = linear(alloc, factor)?;
     Ok(LogPart { poly, arg })
 }
 
