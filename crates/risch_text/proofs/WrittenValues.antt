@@ -1,5 +1,5 @@
 -- The values of a problem are the written values of its lines.
-use Rattle.std.specs.Prelude.{if◌then◌else◌, nat_lt, option_map, All}
+use Rattle.std.specs.Prelude.{if◌then◌else◌, nat_lt, option_map, All, IfOk}
 use Rattle.std.specs.List.{AllZip}
 use Rattle.std.proofs.Common.{◌≡◌, ℕ, ◌+◌, ◌≤◌, ◌<◌, Bool, true, false, List, [], ◌∷◌, ◌++◌, length, map, Option, None, Some, Result, Ok, Err, refl, sym, ap, subst, ◌∙◌, arith, length-append, append_assoc}
 use Rattle.std.proofs.lemmas.Bool.{ltb-true}
@@ -37,7 +37,7 @@ use Rattle.risch_text.specs.Certified.{LogLine, log_line, sum_line, RefutationTr
 use Rattle.risch_text.specs.Problem.{ProblemValue, CertifiedValue}
 use Rattle.risch_text.specs.Values.{Reading, map_fault, fault_of_value, fault_of_push, monomial_with, element_at, with_line, with_lines, factor_value, logarithm, log_value, with_logs, problem_value, integral_value, chain_value, certificate_value, answer_value, certified_value}
 use Rattle.risch_text.specs.Programs.{problem_program, certified_program, AreOver, IsProblemOver, IsLogOver, IsRefutationOver, IsSomeRefutationOver, IsAnswerOver}
-use Rattle.risch_text.specs.Reading.{IsWholeProblem, IsCertifiedRead}
+use Rattle.risch_text.specs.Reading.{Reads, IsWholeProblem, IsCertifiedRead}
 use Rattle.risch_text.specs.Meaning.{monomial_of, written_monomial, IsWritten, IsLogWritten, IsIntegralWritten, IsChainWritten, IsCertificateWritten, IsCertifiedWritten}
 use Rattle.risch_text.specs.declared.fault.Fault.{Fault}
 use Rattle.risch_text.specs.declared.programs.ProblemProgram.{ProblemProgram}
@@ -150,6 +150,11 @@ pub problem_is_written : (bytes : List ℕ) (program : ProblemProgram) (problem 
 problem_is_written bytes program problem p value =
     let w = values_written p.tree problem p.over (value p.tree p.written) in
     record { tree = p.tree; read = p.is; tower = w.tower_is; integrand = w.integrand_is }
+
+pub problem_if_written : (bytes : List ℕ) (program : ProblemProgram) (result : Result ProblemValue Fault) → IsWholeProblem (whole_problem bytes) program →
+    ((tree : ProblemTree) → program ≡ problem_program tree → Reads result (problem_value tree)) → IfOk result (IsWritten bytes)
+problem_if_written bytes program (Ok problem) p value = problem_is_written bytes program problem p value
+problem_if_written bytes program (Err fault) p value = tt
 
 -- ---- logarithms
 element_kept : (start : ℕ) (tree : Tree) (n : ℕ) (e : Element) → IsOver n false tree → element_at start tree ≡ Ok e → IsElement e

@@ -68,16 +68,24 @@ fn certificate_of(alloc: Global, program: &AnswerProgram) -> Result<Certificate,
 }
 
 /// The problem, and then its certificate.
+fn certified_values(alloc: Global, program: &CertifiedProgram) -> Result<Certified, Fault>
+    requires { IsCertifiedProgramOver program.now }
+    ensures { (tree : CertifiedTree) → program.now ≡ certified_program tree → Reads result (spec.certified_value tree) }
+{
+    let lines = program.answer.lines.copy(alloc)?;
+    let problem = problem_of(alloc, &program.problem)?;
+    let certificate = certificate_of(alloc, &program.answer)?;
+    Ok(Certified {
+        problem,
+        certificate,
+        lines,
+    })
+}
+
+/// The same of a program that is given away.
 pub(crate) fn certified_of(alloc: Global, program: CertifiedProgram) -> Result<Certified, Fault>
     requires { IsCertifiedProgramOver program }
     ensures { (tree : CertifiedTree) → program ≡ certified_program tree → Reads result (spec.certified_value tree) }
 {
-    let CertifiedProgram { problem, answer } = program;
-    let problem = problem_of(alloc, &problem)?;
-    let certificate = certificate_of(alloc, &answer)?;
-    Ok(Certified {
-        problem,
-        certificate,
-        lines: answer.lines,
-    })
+    certified_values(alloc, &program)
 }

@@ -21,7 +21,6 @@ use crate::values::problem_of;
 use std::alloc::Global;
 
 /// The problem of a file, or what ends its reading.
-#[tactic(auto, using(crate::proofs::TowerValues::whole_problem_over, crate::proofs::WrittenValues::problem_is_written))]
 fn problem(alloc: Global, bytes: &[u8]) -> Result<Problem, Fault>
     requires { length bytes.now < 2 ^ 32 }
     ensures value { Reads result (valued_by problem_value (file.whole_problem bytes.now)) }
@@ -47,7 +46,6 @@ pub fn read_problem(alloc: Global, bytes: &[u8]) -> ReadProblem
 }
 
 /// The problem and the certificate of a file, `None` where the answer is not yet read, or what ends the reading.
-#[tactic(auto, using(crate::proofs::CertifiedValues::certified_over, crate::proofs::Answers::certified_none, crate::proofs::Answers::certified_some, crate::proofs::Answers::certified_fault, crate::proofs::Answers::certified_end, crate::proofs::WrittenValues::certified_is_written))]
 fn certified(alloc: Global, bytes: &[u8]) -> Result<Option<Certified>, Fault>
     requires { length bytes.now < 2 ^ 32 }
     ensures value { Reads result (valued_by certified_if_read (answer.whole_certified bytes.now)) }
