@@ -1,16 +1,18 @@
 -- Tower lines, one after the other.
 use Rattle.std.proofs.Common.{◌≡◌, ℕ, suc, ◌+◌, ◌-◌, ◌≤◌, ◌<◌, List, [], ◌∷◌, ◌++◌, length, map, Some, None, refl, sym, ap, subst, ◌∙◌, arith, false, length-append}
-use Rattle.std.proofs.lemmas.List.{map-append}
+use Rattle.std.specs.Prelude.{codes}
+use Rattle.std.proofs.lemmas.List.{map-append, length-map}
 use Rattle.risch_expression.specs.Results.{and_next}
 use Rattle.risch_expression.specs.Tree.{IsOver}
 use Rattle.risch_expression.specs.Grammar.{Read}
 use Rattle.risch_expression.specs.Reading.{IsFaultOf}
 use Rattle.risch_expression.specs.declared.fault.ReadFault.{ReadFault}
 use Rattle.risch_expression.specs.declared.fault.ReadFault.TheVariants.{Syntax, Memory}
-use Rattle.risch_text.specs.Lines.{Front, Reached, behind_word}
-use Rattle.risch_text.specs.File.{TowerLine, monomial_name, tower_line, tower_lines, tower_lines_from}
+use Rattle.risch_text.specs.Lines.{Front, Reached, behind_word, expression_line}
+use Rattle.risch_text.specs.File.{TowerLine, monomials, monomial_name, tower_line, tower_lines, tower_lines_from, problem_lines}
 use Rattle.risch_text.specs.Programs.{tower_program, AreOver}
-use Rattle.risch_text.specs.Reading.{IsTowerLine, AreTowerLines}
+use Rattle.risch_text.specs.Reading.{IsSum, IsTowerLine, AreTowerLines, IsProblemRead}
+use Rattle.risch_expression.specs.declared.program.Step.{Step}
 use Rattle.risch_text.specs.declared.programs.TowerProgram.{TowerProgram}
 
 -- The first n lines are read: the rule is the same from here on.
@@ -70,3 +72,34 @@ module _ (rule : Read (Reached (List TowerLine))) (n : ℕ) (programs : List Tow
   tower_fault behind left (Syntax f) low e is h =
       next_line behind left low e is ∙ ap (λ r. and_next r (λ l. tower_lines (9 - (n + 1)) (s.lines ++ l.value ∷ []) l.front)) h
   tower_fault behind left Memory low e is h = tt
+
+-- ---- the lines of a problem
+pub tower_lines_fault : (front : Front) (fault : ReadFault) → IsFaultOf fault (tower_lines 9 [] front) → IsFaultOf fault (problem_lines front)
+unfolding problem_lines
+tower_lines_fault front (Syntax f) h = rw h refl
+tower_lines_fault front Memory h = tt
+
+module _ (front behind : Front) (tower : List TowerProgram) (t : AreTowerLines (tower_lines 9 [] front) tower behind) where
+  height : length tower ≡ length t.lines
+  height = ap length t.written ∙ length-map t.lines tower_program
+
+  pub integrand_fault : (fault : ReadFault) → IsFaultOf fault (expression_line (codes "integrate") (monomials (length tower)) behind) → IsFaultOf fault (problem_lines front)
+  unfolding problem_lines
+  integrand_fault (Syntax f) h =
+      let is = t.is in
+      let there = rw height at h in
+      rw (is, there) refl
+  integrand_fault Memory h = tt
+
+  pub problem_read : (integrand : List Step) (next : Front) → IsSum (monomials (length tower)) (expression_line (codes "integrate") (monomials (length tower)) behind) integrand next →
+      IsProblemRead (problem_lines front) (record { tower = tower; integrand = integrand }) next
+  unfolding problem_lines
+  problem_read integrand next u =
+      let is = t.is in
+      let there = ap (λ n. expression_line (codes "integrate") (monomials n) behind) (sym height) ∙ u.is in
+      record {
+        tree = record { tower = t.lines; integrand = u.tree };
+        is = rw (is, there) refl;
+        written = rw (t.written, u.written) refl;
+        over = record { tower = t.over; integrand = subst (λ (n : ℕ). IsOver (n + 1) false u.tree) height u.over };
+      }

@@ -88,7 +88,6 @@ fn tower_lines(alloc: Global, lines: &mut Lines<'_>) -> Result<Items<TowerProgra
 }
 
 /// The tower lines that stand next, and the line of the integrand.
-#[tactic(auto, unfolding(crate::specs::File::problem_lines))]
 pub(crate) fn problem_lines(
     alloc: Global,
     lines: &mut Lines<'_>,
