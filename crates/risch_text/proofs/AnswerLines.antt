@@ -4,7 +4,7 @@ use Rattle.std.specs.Prelude.{option_map, All, codes, OnOk, IfOk, IfErr}
 use Rattle.std.proofs.lemmas.List.{map-append}
 use Rattle.std.proofs.lemmas.List.Elements.{All-nil, All-push}
 use Rattle.risch_expression.specs.Words.{after_word}
-use Rattle.risch_expression.specs.Results.{and_next}
+use Rattle.risch_expression.specs.Results.{and_next, map_value}
 use Rattle.risch_expression.specs.Tree.{Tree}
 use Rattle.risch_expression.specs.Grammar.{Read}
 use Rattle.risch_expression.specs.Reading.{IsFaultOf}
@@ -12,12 +12,14 @@ use Rattle.risch_expression.specs.declared.fault.ReadFault.{ReadFault}
 use Rattle.risch_expression.specs.declared.fault.ReadFault.TheVariants.{Syntax, Memory}
 use Rattle.risch_expression.specs.declared.fault.SyntaxFault.{SyntaxFault}
 use Rattle.risch_expression.specs.declared.names.Names.{Names}
-use Rattle.risch_text.specs.Lines.{Front, moved, Reached, behind_word, wanted, fixed, bare_line, expression_line, InFile}
+use Rattle.risch_text.specs.Lines.{Front, moved, Reached, reached, behind_word, wanted, fixed, line_end, to_line_end, sum_of, bare_line, expression_line, InFile}
 use Rattle.risch_text.specs.File.{monomials}
-use Rattle.risch_text.specs.Certified.{LogLines, next_log, log_lines, log_lines_from, with_log, AnswerTree, end_line, is_refuted, partial_lines, integral_end, refutation_end, answer_end, answer_lines}
+use Rattle.risch_text.specs.Certified.{log_line, sum_line, with_z, factor, after_log, after_sum, LogLines, next_log, log_lines, log_lines_from, with_log, AnswerTree, end_line, is_refuted, partial_lines, integral_end, refutation_end, answer_end, answer_lines}
 use Rattle.risch_text.specs.Programs.{log_program, answer_program, IsLogOver, IsPartialOver}
-use Rattle.risch_text.specs.Reading.{IsSum, IsSomeLog, IsNextFault, AreLogLines, IsSomeEnd, IsPartialRead, IsAnswerRead, IsSomeAnswer}
+use Rattle.risch_text.specs.Reading.{IsSum, IsLogLine, IsSomeLog, IsNextFault, AreLogLines, IsSomeEnd, IsPartialRead, IsAnswerRead, IsSomeAnswer}
+use Rattle.risch_text.specs.declared.programs.Factor.{Factor}
 use Rattle.risch_text.specs.declared.programs.LogProgram.{LogProgram}
+use Rattle.risch_text.specs.declared.programs.LogProgram.TheVariants.{Log, Sum}
 use Rattle.risch_text.specs.declared.programs.LogPrograms.{LogPrograms}
 use Rattle.risch_text.specs.declared.programs.EndProgram.{EndProgram}
 use Rattle.risch_text.specs.declared.programs.AnswerProgram.{AnswerProgram}
@@ -59,6 +61,81 @@ bare_line_low w ws front next h f = fixed_low w ws front (behind_word (w ∷ ws)
 pub expression_line_low : (w : ℕ) (ws : List ℕ) (names : Names) (front : Front) (r : Reached Tree) → expression_line (w ∷ ws) names front ≡ Ok r → InFile front → front.line < 2 ^ 32
 unfolding expression_line
 expression_line_low w ws names front r h f = fixed_low w ws front (behind_word (w ∷ ws) front) refl _ r h f
+
+pub expression_line_at : (word : List ℕ) (names : Names) (front : Front) (r : Reached Tree) → 0 < length word → expression_line word names front ≡ Ok r → InFile front → front.line < 2 ^ 32
+expression_line_at [] names front r some h f = absurd (omega arith)
+expression_line_at (w ∷ ws) names front r some h f = expression_line_low w ws names front r h f
+
+-- ---- a line that ends in an expression of which a value is formed
+module _ {A : Type 0} (f : Tree → A) where
+  abbrev with_value : Reached Tree → Reached A
+  with_value r = record { value = f r.value; front = r.front }
+
+  abbrev formed_line : List ℕ → Names → Front → Read (Reached A)
+  formed_line word names front = and_next (fixed word front) (λ behind. and_next (sum_of names behind) (λ sum. to_line_end (f sum.value) sum.front))
+
+  formed : (word : List ℕ) (names : Names) (front : Front) → formed_line word names front ≡ map_value with_value (expression_line word names front)
+  unfolding expression_line
+  formed word names front = by_word (fixed word front)
+    where
+      by_end : (tree : Tree) (end : Read Front) → and_next end (λ next. Ok (reached (f tree) next)) ≡ map_value with_value (and_next end (λ next. Ok (reached tree next)))
+      by_end tree (Ok next) = refl
+      by_end tree (Err fault) = refl
+
+      by_sum : (sum : Read (Reached Tree)) → and_next sum (λ s. to_line_end (f s.value) s.front) ≡ map_value with_value (and_next sum (λ s. to_line_end s.value s.front))
+      by_sum (Ok s) = by_end s.value (line_end s.front)
+      by_sum (Err fault) = refl
+
+      by_word : (found : Read Front) → and_next found (λ behind. and_next (sum_of names behind) (λ sum. to_line_end (f sum.value) sum.front))
+          ≡ map_value with_value (and_next found (λ behind. and_next (sum_of names behind) (λ sum. to_line_end sum.value sum.front)))
+      by_word (Ok behind) = by_sum (sum_of names behind)
+      by_word (Err fault) = refl
+
+-- behind the word `log`
+pub log_factor_fault : (n : ℕ) (front : Front) (fault : SyntaxFault) → factor front ≡ Err fault → after_log n front ≡ Err fault
+unfolding after_log
+log_factor_fault n front fault e = rw e refl
+
+module _ (n : ℕ) (front behind : Front) (c : Factor) (e : factor front ≡ Ok (record { value = c; front = behind })) where
+  log_is : after_log n front ≡ map_value (with_value (log_line c)) (expression_line (codes "of") (monomials n) behind)
+  unfolding after_log
+  log_is = rw e (formed (log_line c) (codes "of") (monomials n) behind)
+
+  pub log_read : (argument : List Step) (after : Front) → IsSum (monomials n) (expression_line (codes "of") (monomials n) behind) argument after → IsLogLine n (after_log n front) (Log c argument) after
+  log_read argument after u = record {
+    line = log_line c u.tree;
+    is = log_is ∙ ap (map_value (with_value (log_line c))) u.is;
+    written = ap (Log c) u.written;
+    over = u.over;
+  }
+
+  pub log_fault : (fault : ReadFault) → IsFaultOf fault (expression_line (codes "of") (monomials n) behind) → IsFaultOf fault (after_log n front)
+  log_fault (Syntax f) h = log_is ∙ ap (map_value (with_value (log_line c))) h
+  log_fault Memory h = tt
+
+-- behind the word `sum`
+pub sum_modulus_fault : (n : ℕ) (front : Front) (fault : ReadFault) → IsFaultOf fault (sum_of (with_z n) front) → IsFaultOf fault (after_sum n front)
+unfolding after_sum
+sum_modulus_fault n front (Syntax f) h = rw h refl
+sum_modulus_fault n front Memory h = tt
+
+module _ (n : ℕ) (front behind : Front) (modulus : List Step) (r : IsSum (with_z n) (sum_of (with_z n) front) modulus behind) where
+  sum_is : after_sum n front ≡ map_value (with_value (λ s. sum_line r.tree s front.start)) (expression_line (codes "of") (with_z n) behind)
+  unfolding after_sum
+  sum_is = let is = r.is in rw is (formed (λ s. sum_line r.tree s front.start) (codes "of") (with_z n) behind)
+
+  pub sum_read : (argument : List Step) (after : Front) (start : ℕ) → start ≡ front.start → IsSum (with_z n) (expression_line (codes "of") (with_z n) behind) argument after →
+      IsLogLine n (after_sum n front) (Sum modulus argument start) after
+  sum_read argument after start e s = record {
+    line = sum_line r.tree s.tree front.start;
+    is = sum_is ∙ ap (map_value (with_value (λ s. sum_line r.tree s front.start))) s.is;
+    written = rw (r.written, s.written, e) refl;
+    over = (r.over, s.over);
+  }
+
+  pub sum_fault : (fault : ReadFault) → IsFaultOf fault (expression_line (codes "of") (with_z n) behind) → IsFaultOf fault (after_sum n front)
+  sum_fault (Syntax f) h = sum_is ∙ ap (map_value (with_value (λ s. sum_line r.tree s front.start))) h
+  sum_fault Memory h = tt
 
 -- ---- logarithms, over n monomials, behind so many lines
 -- What is read so far: the rule is the same from here on.
@@ -183,6 +260,10 @@ module _ (n : ℕ) (tree : AnswerTree) (partial : AnswerProgram) (written : part
 pub integral_end_fault : (tree : AnswerTree) (front : Front) (fault : SyntaxFault) → bare_line (codes "end") front ≡ Err fault → integral_end tree front ≡ Err fault
 unfolding integral_end
 integral_end_fault tree front fault e = rw e refl
+
+pub integral_fault : (tree : AnswerTree) (front : Front) (fault : ReadFault) → IsFaultOf fault (bare_line (codes "end") front) → IsFaultOf fault (integral_end tree front)
+integral_fault tree front (Syntax f) h = integral_end_fault tree front f h
+integral_fault tree front Memory h = tt
 
 pub rest_fault : (n : ℕ) (tree : AnswerTree) (front : Front) (fault : ReadFault) → IsFaultOf fault (expression_line (codes "rest") (monomials n) front) → IsFaultOf fault (refutation_end n tree front)
 unfolding refutation_end

@@ -61,6 +61,10 @@ refutation_program r = record { rest = steps r.rest; end = end_program r.end }
 abbrev pub answer_program : AnswerTree → AnswerProgram
 answer_program a = record { part = steps a.part; logs = map log_program a.logs; refutation = option_map refutation_program a.refutation; lines = a.lines }
 
+-- an answer so far with this refutation, and with lines of these numbers
+abbrev pub refuted_program : AnswerProgram → List ℕ → RefutationProgram → AnswerProgram
+refuted_program partial lines r = record { part = partial.part; logs = partial.logs; refutation = Some r; lines = lines }
+
 abbrev pub certified_program : CertifiedTree → CertifiedProgram
 certified_program t = record { problem = problem_program t.problem; answer = answer_program t.answer }
 

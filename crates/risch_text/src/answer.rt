@@ -1,18 +1,20 @@
 //! The lines of a printed answer.
 
-ghost use Rattle.std.specs.Prelude.{◌≡◌, ◌+◌, ◌<◌, ◌≤◌, ◌^◌, [], ◌∷◌, ◌++◌, length, IfOk, IfErr, OnOk, OnErr};
+ghost use Rattle.std.specs.Prelude.{◌≡◌, ◌+◌, ◌<◌, ◌≤◌, ◌^◌, [], ◌∷◌, ◌++◌, length, codes, option_map, Ok, IfOk, IfErr, OnOk, OnErr};
 ghost use Rattle.risch_frac.specs.Fraction as fraction;
 ghost use Rattle.risch_expression.specs.Reading.{IsFaultOf};
-ghost use Rattle.risch_text.specs.Lines.{InFile};
+ghost use Rattle.risch_text.specs.Lines.{bare_line, InFile};
 ghost use Rattle.risch_text.specs.Certified as spec;
 ghost use Rattle.risch_text.specs.Certified.{AnswerTree};
-ghost use Rattle.risch_text.specs.Programs.{answer_program, IsPartialOver};
-ghost use Rattle.risch_text.specs.Reading.{MovesTo, IsLogLine, IsNextLog, IsNextFault, AreLogLines, IsPartialRead, IsAnswerRead, IsSomeAnswer, IsWholeCertified};
+ghost use Rattle.risch_text.specs.Programs.{answer_program, refuted_program, IsPartialOver};
+ghost use Rattle.risch_text.specs.declared.programs.AnswerProgram.{AnswerProgram};
+ghost use Rattle.risch_text.specs.Reading.{MovesTo, IsLogLine, IsNextLog, IsNextFault, AreLogLines, IsPartialRead, IsNextEnd, IsAnswerRead, IsSomeAnswer, IsWholeCertified};
 
 use crate::file::{monomials, problem_lines};
 use crate::lines::Lines;
 use crate::programs::{
-    AnswerProgram, CertifiedProgram, Divisor, Factor, LogProgram, LogPrograms, RefutationProgram,
+    AnswerProgram, CertifiedProgram, Divisor, EndProgram, Factor, LogProgram, LogPrograms,
+    RefutationProgram,
 };
 use crate::refutation::end_line;
 use risch_elem::{Items, NumberList};
@@ -65,7 +67,6 @@ fn factor(lines: &mut Lines<'_>) -> Result<Factor, SyntaxFault>
 }
 
 /// What stands behind the word `log`, over n monomials.
-#[tactic(auto, unfolding(crate::specs::Certified::after_log))]
 fn after_log(alloc: Global, lines: &mut Lines<'_>, n: u8) -> Result<LogProgram, ReadFault>
     requires { InFile lines.old }
     ensures read { IfOk result (λ program. IsLogLine n (spec.after_log n lines.old) program lines.new) }
@@ -73,14 +74,11 @@ fn after_log(alloc: Global, lines: &mut Lines<'_>, n: u8) -> Result<LogProgram, 
     ensures in_file { OnOk result (InFile lines.new) }
 {
     let factor = factor(lines)?;
-    lines.word(b"of")?;
-    let argument = lines.sum(alloc, monomials(n))?;
-    lines.line_end()?;
+    let argument = lines.expression_line(alloc, b"of", monomials(n))?;
     Ok(LogProgram::Log(factor, argument))
 }
 
 /// What stands behind the word `sum`, over n monomials.
-#[tactic(auto, unfolding(crate::specs::Certified::after_sum))]
 fn after_sum(alloc: Global, lines: &mut Lines<'_>, n: u8) -> Result<LogProgram, ReadFault>
     requires { InFile lines.old }
     ensures read { IfOk result (λ program. IsLogLine n (spec.after_sum n lines.old) program lines.new) }
@@ -89,9 +87,7 @@ fn after_sum(alloc: Global, lines: &mut Lines<'_>, n: u8) -> Result<LogProgram, 
 {
     let start = lines.line_start();
     let modulus = lines.sum(alloc, with_z(n))?;
-    lines.word(b"of")?;
-    let argument = lines.sum(alloc, with_z(n))?;
-    lines.line_end()?;
+    let argument = lines.expression_line(alloc, b"of", with_z(n))?;
     Ok(LogProgram::Sum(modulus, argument, start))
 }
 
@@ -169,7 +165,7 @@ fn is_refuted(lines: &mut Lines<'_>) -> Result<bool, SyntaxFault>
 }
 
 /// The part and the logarithms of an answer, over n monomials, behind its first line, which has this number.
-#[tactic(auto, using(crate::proofs::AnswerLines::expression_line_low, crate::proofs::AnswerLines::partial_read, crate::proofs::AnswerLines::part_fault, crate::proofs::AnswerLines::partial_fault))]
+#[tactic(auto, using(crate::proofs::AnswerLines::partial_read, crate::proofs::AnswerLines::part_fault, crate::proofs::AnswerLines::partial_fault))]
 fn partial_lines(
     alloc: Global,
     lines: &mut Lines<'_>,
@@ -181,11 +177,9 @@ fn partial_lines(
     ensures fault { IfErr result (λ fault. IsFaultOf fault (spec.partial_lines n first lines.old)) }
     ensures in_file { OnOk result (InFile lines.new) }
 {
-    let second = lines.line();
-    let part = lines.expression_line(alloc, b"part", monomials(n))?;
     let mut numbers = NumberList::new(alloc);
     numbers.push(first)?;
-    numbers.push(second as u32)?;
+    let part = lines.numbered_line(alloc, b"part", monomials(n), &mut numbers)?;
     let LogPrograms { logs, lines } = log_lines(alloc, lines, n, numbers)?;
     Ok(AnswerProgram {
         part,
@@ -195,8 +189,21 @@ fn partial_lines(
     })
 }
 
+/// The line `end` of an integral, whose number is put behind those of the lines above.
+fn end_of_integral(lines: &mut Lines<'_>, numbers: &mut NumberList) -> Result<(), ReadFault>
+    requires { InFile lines.old }
+    ensures read { OnOk result (bare_line (codes "end") lines.old ≡ Ok lines.new) }
+    ensures numbered { OnOk result (numbers.new ≡ numbers.old ++ lines.old.line ∷ []) }
+    ensures fault { IfErr result (λ fault. IsFaultOf fault (bare_line (codes "end") lines.old)) }
+    ensures in_file { OnOk result (InFile lines.new) }
+{
+    let last = lines.line();
+    lines.bare_line(b"end")?;
+    numbers.push(last as u32)?;
+    Ok(())
+}
+
 /// An answer so far, and the end of an integral, over n monomials.
-#[tactic(auto, using(crate::proofs::AnswerLines::bare_line_low))]
 fn integral_end(
     lines: &mut Lines<'_>,
     n: u8,
@@ -207,49 +214,68 @@ fn integral_end(
     ensures fault { (tree : AnswerTree) → IfErr result (λ fault. IsFaultOf fault (spec.integral_end tree lines.old)) }
     ensures in_file { OnOk result (InFile lines.new) }
 {
-    let last = lines.line();
-    lines.bare_line(b"end")?;
-    partial.lines.push(last as u32)?;
+    end_of_integral(lines, &mut partial.lines)?;
     Ok(partial)
 }
 
+/// What stands behind the line `rest`, over n monomials, and the number of its line, which is put behind those of the lines above; `None` where it is not yet read.
+fn end_of_refutation(
+    alloc: Global,
+    lines: &mut Lines<'_>,
+    n: u8,
+    numbers: &mut NumberList,
+) -> Result<Option<EndProgram>, ReadFault>
+    requires { InFile lines.old }
+    ensures read { IfOk result (λ end. IsNextEnd n (spec.end_line n lines.old) end lines.new) }
+    ensures numbered { OnOk result (numbers.new ≡ numbers.old ++ lines.old.line ∷ []) }
+    ensures fault { IfErr result (λ fault. IsFaultOf fault (spec.end_line n lines.old)) }
+    ensures in_file { OnOk result (InFile lines.new) }
+{
+    let line = lines.line();
+    let end = end_line(alloc, lines, n)?;
+    numbers.push(line as u32)?;
+    Ok(end)
+}
+
+/// The rest and the end of a refutation, over n monomials, with the numbers of their lines behind those of an answer so far; `None` where it is not yet read.
+fn refutation_lines(
+    alloc: Global,
+    lines: &mut Lines<'_>,
+    n: u8,
+    numbers: &mut NumberList,
+) -> Result<Option<RefutationProgram>, ReadFault>
+    requires { InFile lines.old }
+    ensures read { (tree : AnswerTree) (partial : AnswerProgram) → partial ≡ answer_program tree → IsPartialOver (n + 1) tree → numbers.old ≡ partial.lines → IfOk result (λ found. IsSomeAnswer n (spec.refutation_end n tree lines.old) (option_map (refuted_program partial numbers.new) found) lines.new) }
+    ensures fault { (tree : AnswerTree) → IfErr result (λ fault. IsFaultOf fault (spec.refutation_end n tree lines.old)) }
+    ensures in_file { OnOk result (InFile lines.new) }
+{
+    let rest = lines.numbered_line(alloc, b"rest", monomials(n), numbers)?;
+    let Some(end) = end_of_refutation(alloc, lines, n, numbers)? else {
+        return Ok(None);
+    };
+    Ok(Some(RefutationProgram { rest, end }))
+}
+
 /// An answer so far, and the rest and the end of a refutation, over n monomials; `None` where it is not yet read.
-#[tactic(auto, using(crate::proofs::AnswerLines::expression_line_low))]
 fn refutation_end(
     alloc: Global,
     lines: &mut Lines<'_>,
     n: u8,
-    partial: AnswerProgram,
+    mut partial: AnswerProgram,
 ) -> Result<Option<AnswerProgram>, ReadFault>
     requires { InFile lines.old }
     ensures read { (tree : AnswerTree) → partial ≡ answer_program tree → IsPartialOver (n + 1) tree → IfOk result (λ program. IsSomeAnswer n (spec.refutation_end n tree lines.old) program lines.new) }
     ensures fault { (tree : AnswerTree) → IfErr result (λ fault. IsFaultOf fault (spec.refutation_end n tree lines.old)) }
     ensures in_file { OnOk result (InFile lines.new) }
 {
-    let AnswerProgram {
-        part,
-        logs,
-        refutation: _,
-        lines: mut numbers,
-    } = partial;
-    let first = lines.line();
-    let rest = lines.expression_line(alloc, b"rest", monomials(n))?;
-    let last = lines.line();
-    let Some(end) = end_line(alloc, lines, n)? else {
+    let Some(refutation) = refutation_lines(alloc, lines, n, &mut partial.lines)? else {
         return Ok(None);
     };
-    numbers.push(first as u32)?;
-    numbers.push(last as u32)?;
-    Ok(Some(AnswerProgram {
-        part,
-        logs,
-        refutation: Some(RefutationProgram { rest, end }),
-        lines: numbers,
-    }))
+    partial.refutation = Some(refutation);
+    Ok(Some(partial))
 }
 
 /// The lines of a printed answer, over n monomials; `None` where it is not yet read.
-#[tactic(auto, using(crate::proofs::AnswerLines::first_line_fault, crate::proofs::AnswerLines::partial_lines_fault, crate::proofs::AnswerLines::refuted_answer, crate::proofs::AnswerLines::refuted_answer_fault, crate::proofs::AnswerLines::integral_answer, crate::proofs::AnswerLines::integral_answer_fault))]
 fn answer_lines(
     alloc: Global,
     lines: &mut Lines<'_>,
@@ -271,7 +297,6 @@ fn answer_lines(
 }
 
 /// A file that holds a problem, its printed answer, and nothing more; `None` where the answer is not yet read.
-#[tactic(auto, using(crate::proofs::WholeFiles::problem_fault, crate::proofs::WholeFiles::answer_unread, crate::proofs::WholeFiles::answer_fault, crate::proofs::WholeFiles::end_fault, crate::proofs::WholeFiles::certified_read))]
 pub(crate) fn whole_certified(
     alloc: Global,
     bytes: &[u8],

@@ -1,6 +1,6 @@
 //! The lines of a file: the bytes at hand, and the line that they begin in.
 
-ghost use Rattle.std.specs.Prelude.{◌≡◌, ◌+◌, ◌<◌, ◌≤◌, ◌^◌, ◌||◌, false, length, IfOk, IfErr, OnOk};
+ghost use Rattle.std.specs.Prelude.{◌≡◌, ◌+◌, ◌<◌, ◌≤◌, ◌^◌, ◌||◌, false, [], ◌∷◌, ◌++◌, length, IfOk, IfErr, OnOk};
 ghost use Rattle.risch_frac.specs.Fraction as fraction;
 ghost use Rattle.risch_expression.specs.Words as words;
 ghost use Rattle.risch_expression.specs.Reading.{IsFaultOf};
@@ -8,6 +8,7 @@ ghost use Rattle.risch_text.specs.Lines as spec;
 ghost use Rattle.risch_text.specs.Lines.{after_lines, behind_word, behind_byte, InFile};
 ghost use Rattle.risch_text.specs.Reading.{Passes, Moves, MovesTo, TakesVariable, IsSum};
 
+use risch_elem::NumberList;
 use risch_expression::{
     Cause, MOST_NUMBER, MOST_OPEN, Names, Program, ReadFault, SyntaxFault, Words, read_sum,
 };
@@ -242,6 +243,27 @@ impl<'a> Lines<'a> {
         self.word(word)?;
         let program = self.sum(alloc, names)?;
         self.line_end()?;
+        Ok(program)
+    }
+
+    /// A line of this word and an expression, whose number is put behind those of the lines above.
+    pub(crate) fn numbered_line(
+        &mut self,
+        alloc: Global,
+        word: &[u8],
+        names: Names,
+        numbers: &mut NumberList,
+    ) -> Result<Program, ReadFault>
+        requires in_file { InFile self.old }
+        requires some { 0 < length word.now }
+        ensures read { IfOk result (λ program. IsSum names (spec.expression_line word.now names self.old) program self.new) }
+        ensures numbered { OnOk result (numbers.new ≡ numbers.old ++ self.old.line ∷ []) }
+        ensures fault { IfErr result (λ fault. IsFaultOf fault (spec.expression_line word.now names self.old)) }
+        ensures in_file { OnOk result (InFile self.new) }
+    {
+        let line = self.line();
+        let program = self.expression_line(alloc, word, names)?;
+        numbers.push(line as u32)?;
         Ok(program)
     }
 

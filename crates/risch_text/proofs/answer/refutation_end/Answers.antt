@@ -1,25 +1,8 @@
-use Rattle.std.proofs.Common.{ℕ, ◌∷◌, [], ◌++◌, ◌∙◌, ap}
-use Rattle.std.proofs.lemmas.Result.{err_from_is_err_and}
-use Rattle.risch_text.proofs.AnswerLines.{refutation_read, refutation_unread, rest_fault, end_line_fault}
+use Rattle.std.proofs.Common.{refl}
 use Rattle.risch_text.proofs.answer.refutation_end.Goals as goal
 
-pub returns-in_err-rest-clause-fault : goal.returns-in_err-rest-clause-fault
-returns-in_err-rest-clause-fault c =
-    let p = err_from_is_err_and c.from_residual.result c.from_residual.ensures.1 in
-    rw (p.1, p.2) (λ tree. rest_fault c.args.n tree c.args.lines.now c.in_err-rest.field-0.0 (rw c.monomials.ensures at c.in_err-rest.ensures.fault))
-
-pub returns-in_err-end-clause-fault : goal.returns-in_err-end-clause-fault
-returns-in_err-end-clause-fault c =
-    let p = err_from_is_err_and c.from_residual-in_err-end.result c.from_residual-in_err-end.ensures.1 in
-    rw (p.1, p.2) (λ tree. end_line_fault c.args.n tree c.args.lines.now c.expression_line.new.self c.in_ok-rest.rest c.in_err-end.field-0.0 (rw c.monomials.ensures at c.in_ok-rest.ensures.read) c.in_err-end.ensures.fault)
-
--- The end is not yet read.
 pub returns-in_default-clause-read : goal.returns-in_default-clause-read
-returns-in_default-clause-read c = λ tree written over. refutation_unread c.args.n tree c.args.partial written over c.args.lines.now c.expression_line.new.self c.in_ok-rest.rest (rw c.monomials.ensures at c.in_ok-rest.ensures.read)
-    c.end_line.new.lines (rw c.in_default.is at c.in_ok-end.ensures.read)
+returns-in_default-clause-read c = λ tree written over. rw c.in_default.is at (c.in_ok-refutation.ensures.read tree c.args.partial written over refl)
 
 pub returns-clause-read : goal.returns-clause-read
-returns-clause-read c = λ tree written over. refutation_read c.args.n tree c.args.partial written over c.args.lines.now c.expression_line.new.self c.in_ok-rest.rest (rw c.monomials.ensures at c.in_ok-rest.ensures.read)
-    c.in-Some.end c.end_line.new.lines c.push.new.self c.push-2.new.self (rw c.in-Some.is at c.in_ok-end.ensures.read)
-    (c.in_ok-push.ensures.ok ∙ ap (λ (l : ℕ). c.args.partial.lines ++ l ∷ []) c.line-first.ensures)
-    (c.in_ok-push-2.ensures.ok ∙ ap (λ (l : ℕ). c.push.new.self ++ l ∷ []) c.line-last.ensures)
+returns-clause-read c = λ tree written over. rw c.in-Some.is at (c.in_ok-refutation.ensures.read tree c.args.partial written over refl)
