@@ -45,7 +45,6 @@ fn push_line(alloc: Global, tower: &mut Tower, line: &TowerProgram) -> Result<()
 }
 
 /// The tower with the monomials of the lines.
-#[tactic(auto, using(crate::proofs::TowerValues::built_begin, crate::proofs::TowerValues::built_over, crate::proofs::TowerValues::built_more, crate::proofs::TowerValues::built_fault, crate::proofs::TowerValues::built_done))]
 fn tower_of(alloc: Global, lines: &[TowerProgram]) -> Result<Tower, Fault>
     requires { AreProgramsOver 1 lines.now }
     ensures value { (ls : List TowerLine) → lines.now ≡ map tower_program ls → Reads result (spec.with_lines [] ls) }
