@@ -14,7 +14,7 @@ use Rattle.risch_expression.specs.declared.fault.SyntaxFault.{SyntaxFault}
 use Rattle.risch_expression.specs.declared.names.Names.{Names}
 use Rattle.risch_text.specs.Lines.{Front, moved, Reached, reached, behind_word, wanted, fixed, line_end, to_line_end, sum_of, bare_line, expression_line, InFile}
 use Rattle.risch_text.specs.File.{monomials}
-use Rattle.risch_text.specs.Certified.{log_line, sum_line, with_z, factor, after_log, after_sum, LogLines, next_log, log_lines, log_lines_from, with_log, AnswerTree, end_line, is_refuted, partial_lines, integral_end, refutation_end, answer_end, answer_lines}
+use Rattle.risch_text.specs.Certified.{LogLine, log_line, sum_line, with_z, factor, after_log, after_sum, LogLines, next_log, log_lines, log_lines_from, with_log, AnswerTree, end_line, is_refuted, partial_lines, integral_end, refutation_end, answer_end, answer_lines}
 use Rattle.risch_text.specs.Programs.{log_program, answer_program, IsLogOver, IsPartialOver}
 use Rattle.risch_text.specs.Reading.{IsSum, IsLogLine, IsSomeLog, IsNextFault, AreLogLines, IsSomeEnd, IsPartialRead, IsAnswerRead, IsSomeAnswer}
 use Rattle.risch_text.specs.declared.programs.Factor.{Factor}
@@ -136,6 +136,28 @@ module _ (n : ℕ) (front behind : Front) (modulus : List Step) (r : IsSum (with
   pub sum_fault : (fault : ReadFault) → IsFaultOf fault (expression_line (codes "of") (with_z n) behind) → IsFaultOf fault (after_sum n front)
   sum_fault (Syntax f) h = sum_is ∙ ap (map_value (with_value (λ s. sum_line r.tree s front.start))) h
   sum_fault Memory h = tt
+
+-- ---- the logarithm that stands next
+module _ (n : ℕ) (front : Front) where
+  pub log_stands : (behind : Front) → behind_word (codes "log") front ≡ Some behind → next_log n front ≡ Some (after_log n behind)
+  unfolding next_log
+  log_stands behind e = rw e refl
+
+  pub sum_stands : (behind : Front) → behind_word (codes "log") front ≡ None → behind_word (codes "sum") front ≡ Some behind → next_log n front ≡ Some (after_sum n behind)
+  unfolding next_log
+  sum_stands behind none e = rw (none, e) refl
+
+  pub none_stands : behind_word (codes "log") front ≡ None → behind_word (codes "sum") front ≡ None → next_log n front ≡ None
+  unfolding next_log
+  none_stands none e = rw (none, e) refl
+
+  module _ (rule : Read (Reached LogLine)) (e : next_log n front ≡ Some rule) where
+    pub next_is : (program : LogProgram) (next : Front) → front.line < 2 ^ 32 → IsLogLine n rule program next → IsSomeLog n (next_log n front) program front next
+    next_is program next low p = record { line = p.line; is = e ∙ ap Some p.is; written = p.written; over = p.over; low = low }
+
+    pub next_fault : (fault : ReadFault) → IsFaultOf fault rule → IsNextFault fault (next_log n front)
+    next_fault (Syntax f) h = e ∙ ap Some h
+    next_fault Memory h = tt
 
 -- ---- logarithms, over n monomials, behind so many lines
 -- What is read so far: the rule is the same from here on.

@@ -92,7 +92,6 @@ fn after_sum(alloc: Global, lines: &mut Lines<'_>, n: u8) -> Result<LogProgram, 
 }
 
 /// The logarithm that stands next, over n monomials.
-#[tactic(auto, using(crate::proofs::AnswerLines::word_low), unfolding(crate::specs::Certified::next_log))]
 fn next_log(alloc: Global, lines: &mut Lines<'_>, n: u8) -> Result<Option<LogProgram>, ReadFault>
     requires { InFile lines.old }
     ensures read { IfOk result (λ log. IsNextLog n (spec.next_log n lines.old) log lines.old lines.new) }
@@ -165,7 +164,6 @@ fn is_refuted(lines: &mut Lines<'_>) -> Result<bool, SyntaxFault>
 }
 
 /// The part and the logarithms of an answer, over n monomials, behind its first line, which has this number.
-#[tactic(auto, using(crate::proofs::AnswerLines::partial_read, crate::proofs::AnswerLines::part_fault, crate::proofs::AnswerLines::partial_fault))]
 fn partial_lines(
     alloc: Global,
     lines: &mut Lines<'_>,
