@@ -115,7 +115,6 @@ fn has_shape(modulus: &[Frac], argument: &[Elem]) -> bool
 }
 
 /// The sum over the roots of R of z·log S, if R and S have the right shape.
-#[tactic(auto, using(crate::proofs::RootSums::shaped_form))]
 fn shaped(alloc: Global, start: u32, modulus: &Poly, argument: &Poly) -> Result<LogPart, Fault>
     ensures value { Reads result (spec.shaped start (spec.with_numbers [] modulus.now) argument.now) }
     ensures form { (n : ℕ) → AllWithin n argument.now → IfOk result (IsLogForm n) }
@@ -173,7 +172,6 @@ fn log_of(alloc: Global, program: &LogProgram) -> Result<LogPart, Fault>
 }
 
 /// The logarithms in order.
-#[tactic(auto, using(crate::proofs::RootSums::parts_begin, crate::proofs::RootSums::parts_more, crate::proofs::RootSums::parts_fault, crate::proofs::RootSums::parts_done))]
 pub(crate) fn logs_of(alloc: Global, programs: &[LogProgram]) -> Result<LogList, Fault>
     ensures value { (lines : List LogLine) → programs.now ≡ map log_program lines → Reads result (spec.with_logs [] lines) }
     ensures form { (n : ℕ) → All (IsLogProgramOver n) programs.now → IfOk result (λ parts. All (IsLogForm n) parts) }
