@@ -14,7 +14,7 @@ use Rattle.risch_expression.specs.declared.fault.ReadFault.TheVariants.{Syntax, 
 use Rattle.risch_expression.specs.declared.names.Names.{Names}
 use Rattle.risch_expression.specs.declared.program.Step.{Step}
 use Rattle.risch_expression.specs.declared.fault.SyntaxFault.{SyntaxFault}
-use Rattle.risch_text.specs.Lines.{Front, moved, reached, after_lines, from_line, behind_word, behind_byte, fixed, symbol, unexpected_at, line_end, number_of, small_number_of, wanted_variable, variable_of, sum_of, InFile}
+use Rattle.risch_text.specs.Lines.{Front, moved, reached, after_lines, from_line, behind_word, behind_byte, fixed, symbol, unexpected_at, line_end, number_of, small_number_of, wanted_variable, variable_of, sum_of, expression_line, InFile}
 use Rattle.risch_text.specs.Reading.{Passes, MovesTo, TakesVariable, IsSum}
 use Rattle.risch_text.proofs.Shorter.{after_byte-short, after_word-short, wanted_number-short, wanted_variable-short, expression-short}
 
@@ -192,3 +192,23 @@ sum_fault names front Memory h = tt
 pub sum_in_file : (names : Names) (front : Front) (program_old program : List Step) (rest : List ℕ) → IsParsedOver names (expression names front.rest) program_old program rest →
     InFile front → InFile (moved front rest)
 sum_in_file names front program_old program rest p f = in_file_moved front rest f (let short = expression-short names front.rest in rw p.is at short)
+
+-- ---- a line of a word and an expression
+pub line_word_fault : (word : List ℕ) (names : Names) (front : Front) (fault : SyntaxFault) → fixed word front ≡ Err fault → expression_line word names front ≡ Err fault
+unfolding expression_line
+line_word_fault word names front fault e = rw e refl
+
+module _ (word : List ℕ) (names : Names) (front behind : Front) (e : fixed word front ≡ Ok behind) where
+  pub line_sum_fault : (fault : ReadFault) → IsFaultOf fault (sum_of names behind) → IsFaultOf fault (expression_line word names front)
+  unfolding expression_line
+  line_sum_fault (Syntax f) h = rw (e, h) refl
+  line_sum_fault Memory h = tt
+
+  module _ (program : List Step) (after : Front) (s : IsSum names (sum_of names behind) program after) where
+    pub line_not_ended : (fault : SyntaxFault) → line_end after ≡ Err fault → expression_line word names front ≡ Err fault
+    unfolding expression_line
+    line_not_ended fault h = let is = s.is in rw (e, is, h) refl
+
+    pub line_read : (next : Front) → line_end after ≡ Ok next → IsSum names (expression_line word names front) program next
+    unfolding expression_line
+    line_read next h = let is = s.is in record { tree = s.tree; is = rw (e, is, h) refl; written = s.written; over = s.over }

@@ -228,7 +228,6 @@ impl<'a> Lines<'a> {
     }
 
     /// A line of this word and an expression: the steps of the expression.
-    #[tactic(auto, unfolding(crate::specs::Lines::expression_line))]
     pub(crate) fn expression_line(
         &mut self,
         alloc: Global,
