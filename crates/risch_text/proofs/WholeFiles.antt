@@ -6,10 +6,10 @@ use Rattle.risch_expression.specs.declared.fault.ReadFault.{ReadFault}
 use Rattle.risch_expression.specs.declared.fault.ReadFault.TheVariants.{Syntax, Memory}
 use Rattle.risch_expression.specs.declared.fault.SyntaxFault.{SyntaxFault}
 use Rattle.risch_text.specs.Lines.{Front, from_line, nothing}
-use Rattle.risch_text.specs.File.{problem_lines, whole_problem}
+use Rattle.risch_text.specs.File.{problem_lines}
 use Rattle.risch_text.specs.Certified.{answer_lines, whole_certified}
 use Rattle.risch_text.specs.Programs.{tower_program, IsAnswerOver}
-use Rattle.risch_text.specs.Reading.{IsProblemRead, IsWholeProblem, IsAnswerRead, IsCertifiedRead}
+use Rattle.risch_text.specs.Reading.{IsProblemRead, IsAnswerRead, IsCertifiedRead}
 use Rattle.risch_text.specs.declared.programs.ProblemProgram.{ProblemProgram}
 use Rattle.risch_text.specs.declared.programs.AnswerProgram.{AnswerProgram}
 
@@ -18,11 +18,6 @@ unfolding whole_certified
 problem_fault bytes front (Syntax f) is h = let same = rw is at h in rw same refl
 problem_fault bytes front Memory is h = tt
 
-pub lines_fault : (bytes : List ℕ) (front : Front) (fault : ReadFault) → front ≡ from_line 1 bytes → IsFaultOf fault (problem_lines front) → IsFaultOf fault (whole_problem bytes)
-unfolding whole_problem
-lines_fault bytes front (Syntax f) is h = let same = rw is at h in rw same refl
-lines_fault bytes front Memory is h = tt
-
 module _ (bytes : List ℕ) (start : Front) (problem : ProblemProgram) (front : Front) (is : start ≡ from_line 1 bytes) (p : IsProblemRead (problem_lines start) problem front) where
   lines : problem_lines (from_line 1 bytes) ≡ Ok (record { value = p.tree; front = front })
   lines = ap problem_lines (sym is) ∙ p.is
@@ -30,16 +25,6 @@ module _ (bytes : List ℕ) (start : Front) (problem : ProblemProgram) (front : 
   height : length problem.tower ≡ length p.tree.tower
   height = ap (λ q. length q.tower) p.written ∙ length-map p.tree.tower tower_program
 
-  -- a problem and nothing more
-  pub problem_end_fault : (f : SyntaxFault) → nothing front ≡ Err f → whole_problem bytes ≡ Err f
-  unfolding whole_problem
-  problem_end_fault f h = rw (lines, h) refl
-
-  pub whole_problem_read : nothing front ≡ Ok front → IsWholeProblem (whole_problem bytes) problem
-  unfolding whole_problem
-  whole_problem_read h = record { tree = p.tree; is = rw (lines, h) refl; written = p.written; over = p.over }
-
-  -- a problem and its answer
   pub answer_unread : (next : Front) → answer_lines (length problem.tower) front ≡ Ok (record { value = None; front = next }) → whole_certified bytes ≡ Ok None
   unfolding whole_certified
   answer_unread next e = let there = rw height at e in rw (lines, there) refl

@@ -105,6 +105,7 @@ pub(crate) fn problem_lines(
 }
 
 /// A file that holds a problem and nothing more.
+#[tactic(auto, unfolding(crate::specs::File::whole_problem))]
 pub(crate) fn whole_problem(alloc: Global, bytes: &[u8]) -> Result<ProblemProgram, ReadFault>
     requires { length bytes.now < 2 ^ 32 }
     ensures read { IfOk result (λ program. IsWholeProblem (spec.whole_problem bytes.now) program) }
