@@ -7,6 +7,7 @@
 //! stands for. `risch_element_theory` states that, of elements in normal form.
 #![tactic(auto)]
 
+mod forms;
 mod lower;
 mod nest;
 

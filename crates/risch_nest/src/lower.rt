@@ -6,6 +6,7 @@ mod derivation;
 mod numbers;
 mod parts;
 
+use crate::forms::HasForm;
 pub(crate) use derivation::LowerRates;
 use risch_field::{Arith, Fail};
 use risch_frac::Frac;
@@ -36,14 +37,40 @@ impl Model for Lower {
     ghost view = { λ l. l.levels };
 }
 
-impl Lower {
-    /// The levels.
-    fn into_levels(self) -> Levels
-        ensures { result ≡ self }
-    {
+impl HasForm for Lower {
+    ghost use Rattle.std.proofs.Common.{sym};
+    ghost use Rattle.std.proofs.lemmas.List.{map-id};
+
+    type Form = Levels;
+
+    ghost of = { λ l. l };
+
+    ghost opened = { λ l. l };
+
+    ghost all_of = { λ p. p };
+
+    ghost all_opened = { λ p. p };
+
+    fn of(levels: Levels) -> Lower {
+        Lower { levels }
+    }
+
+    fn opened(&self) -> &Levels {
+        &self.levels
+    }
+
+    fn into_opened(self) -> Levels {
         let Lower { levels } = self;
         levels
     }
+
+    ghost all_of_is = { λ p. sym (map-id p) };
+
+    ghost all_opened_is = { λ p. sym (map-id p) };
+
+    ghost all_of_kept = { λ p w is. is };
+
+    ghost all_opened_kept = { λ p w is. is };
 }
 
 /// The answer of the lower three levels as one of the field.

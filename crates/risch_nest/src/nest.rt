@@ -6,6 +6,7 @@ mod derivation;
 mod numbers;
 mod parts;
 
+use crate::forms::HasForm;
 use crate::lower::Lower;
 pub use derivation::NestRates;
 use risch_field::{Arith, Fail};
@@ -36,14 +37,41 @@ impl Model for Nest {
     ghost view = { λ n. n.levels };
 }
 
-impl Nest {
-    /// The levels.
-    fn into_levels(self) -> Levels
-        ensures { result ≡ self }
-    {
+impl HasForm for Nest {
+    ghost use Rattle.std.proofs.Common.{sym};
+    ghost use Rattle.std.proofs.lemmas.List.{map-id};
+    ghost use Rattle.risch_nest.specs.Kept.{element_polynomial, levels_polynomial};
+
+    type Form = Levels;
+
+    ghost of = { λ l. l };
+
+    ghost opened = { λ l. l };
+
+    ghost all_of = { λ p. p };
+
+    ghost all_opened = { λ p. p };
+
+    fn of(levels: Levels) -> Nest {
+        Nest { levels }
+    }
+
+    fn opened(&self) -> &Levels {
+        &self.levels
+    }
+
+    fn into_opened(self) -> Levels {
         let Nest { levels } = self;
         levels
     }
+
+    ghost all_of_is = { λ p. sym (map-id p) };
+
+    ghost all_opened_is = { λ p. sym (map-id p) };
+
+    ghost all_of_kept = { element_polynomial };
+
+    ghost all_opened_kept = { levels_polynomial };
 }
 
 /// The answer of the five levels as one of the field.

@@ -4,6 +4,7 @@ ghost use Rattle.std.specs.Prelude.{◌≡◌};
 ghost use Rattle.risch_derivation.specs.Rates.{adjoined};
 
 use super::{Levels, Lower, formed};
+use crate::forms::HasForm;
 use risch_derivation::{Derive, Rate};
 use risch_field::Fail;
 use std::alloc::{AllocError, Global};
@@ -56,7 +57,7 @@ impl Derive for Lower {
     {
         let rate = Rate {
             kind: rate.kind,
-            eta: rate.eta.into_levels(),
+            eta: rate.eta.into_opened(),
         };
         Levels::adjoin(&mut rates.rates, down, rate);
     }

@@ -4,6 +4,7 @@ ghost use Rattle.std.specs.Prelude.{◌≡◌};
 ghost use Rattle.risch_element_theory.specs.ElementDerivation.{element_adjoined};
 
 use super::{Levels, Nest, formed};
+use crate::forms::HasForm;
 use risch_derivation::{Derive, Rate};
 use risch_field::Fail;
 use std::alloc::{AllocError, Global};
@@ -58,7 +59,7 @@ impl Derive for Nest {
     {
         let rate = Rate {
             kind: rate.kind,
-            eta: rate.eta.into_levels(),
+            eta: rate.eta.into_opened(),
         };
         Levels::adjoin(&mut rates.rates, down, rate);
     }

@@ -1,56 +1,15 @@
 //! Numerators, denominators and quotients at a level.
 
-ghost use Rattle.std.specs.Prelude.{◌≡◌, ◌++◌, ◌-◌, ◌<◌, IfOk, OnOk};
+ghost use Rattle.std.specs.Prelude.{◌≡◌, ◌-◌, ◌<◌, IfOk};
 ghost use Rattle.risch_field.specs.Checked.{Agrees};
 ghost use Rattle.risch_level.specs.Parts.{levels, denominator};
 
 use super::{Levels, Nest, formed};
-use risch_field::{Arith, Fail};
+use crate::forms::{unwrapped, wrapped};
+use risch_field::Fail;
 use risch_level::{Denominator, Tower};
 use risch_polynomial::Poly;
 use std::alloc::{AllocError, Global};
-
-/// Appends p_0, p_1, ..
-fn push_wrapped(to: &mut Vec<Nest>, from: Vec<Levels>) -> Result<(), AllocError>
-    ensures { OnOk result (to.new.items ≡ to.old.items ++ from.items) }
-{
-    for levels in from {
-        to.push(Nest { levels })?;
-    }
-    Ok(())
-}
-
-/// The same polynomial.
-#[tactic(auto, unfolding(risch_level::specs::Levels::element))]
-fn wrapped(alloc: Global, from: Poly<Levels>) -> Result<Poly<Nest>, AllocError>
-    ensures { IfOk result (λ it. it ≡ from) }
-{
-    let weight = from.kept_weight();
-    let mut coefficients = Vec::new(alloc);
-    push_wrapped(&mut coefficients, from.into_coefficients())?;
-    Ok(Poly::kept(coefficients, weight))
-}
-
-/// Appends p_0, p_1, ..
-fn push_unwrapped(to: &mut Vec<Levels>, from: Vec<Nest>) -> Result<(), AllocError>
-    ensures { OnOk result (to.new.items ≡ to.old.items ++ from.items) }
-{
-    for nest in from {
-        to.push(nest.into_levels())?;
-    }
-    Ok(())
-}
-
-/// The same polynomial.
-#[tactic(auto, unfolding(risch_level::specs::Levels::element))]
-fn unwrapped(alloc: Global, from: Poly<Nest>) -> Result<Poly<Levels>, AllocError>
-    ensures { IfOk result (λ it. it ≡ from) }
-{
-    let weight = from.kept_weight();
-    let mut coefficients = Vec::new(alloc);
-    push_unwrapped(&mut coefficients, from.into_coefficients())?;
-    Ok(Poly::kept(coefficients, weight))
-}
 
 impl Nest {
     /// The numerator at a level, from 0 for x to 4; 0 for an element above the level.

@@ -1,0 +1,10 @@
+use Rattle.std.proofs.Common.{◌++◌, ap, map, ◌∙◌}
+use Rattle.risch_nest.proofs.Moved.{all-yielded}
+use Rattle.risch_nest.proofs.forms.push_unwrapped.Goals as goal
+
+pub returns : goal.returns
+returns g c =
+    let into = c.into_iter-element-iterator.ensures.into_iter_gives in
+    let all = all-yielded c.args.from.items c.into_iter-element-iterator.result into.0 (into.1 ∙ c.args.from.ok.0)
+    c.loop-element.yielded c.loop-element.element-iterator c.loop-element.yielded_by c.next.result c.next.new.self c.in-None.is c.next.ensures.steps in
+    c.loop-element.invariant ∙ ap (λ items. c.args.to.now.items ++ map g.W.HasForm.opened items) all
