@@ -1,11 +1,20 @@
 //! Numerators, denominators and quotients at one of the lower three levels.
 
+ghost use Rattle.std.specs.Prelude.{◌≡◌, IfOk};
+
 use super::{Levels, Lower, formed};
-use crate::forms::{copied, wrapped};
+use crate::forms::{self, copied};
 use risch_field::Fail;
 use risch_level::{Denominator, Tower};
 use risch_polynomial::Poly;
 use std::alloc::{AllocError, Global};
+
+/// The same polynomial.
+fn wrapped(alloc: Global, from: Poly<Levels>) -> Result<Poly<Lower>, AllocError>
+    ensures { IfOk result (λ it. it ≡ from) }
+{
+    forms::wrapped(alloc, from)
+}
 
 impl Tower for Lower {
     ghost use Rattle.risch_level.specs.Parts.{levels};

@@ -5,11 +5,18 @@ ghost use Rattle.risch_field.specs.Checked.{Agrees};
 ghost use Rattle.risch_level.specs.Parts.{levels, denominator};
 
 use super::{Levels, Nest, formed};
-use crate::forms::{unwrapped, wrapped};
+use crate::forms::{self, unwrapped};
 use risch_field::Fail;
 use risch_level::{Denominator, Tower};
 use risch_polynomial::Poly;
 use std::alloc::{AllocError, Global};
+
+/// The same polynomial.
+fn wrapped(alloc: Global, from: Poly<Levels>) -> Result<Poly<Nest>, AllocError>
+    ensures { IfOk result (λ it. it ≡ from) }
+{
+    forms::wrapped(alloc, from)
+}
 
 impl Nest {
     /// The numerator at a level, from 0 for x to 4; 0 for an element above the level.
