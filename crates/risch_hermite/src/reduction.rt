@@ -277,7 +277,7 @@ fn finished(alloc: Global, level: u8, last: (Partial, Poly)) -> Result<Hermite, 
     with_division(alloc, level, partial, &denominator, &division)
 }
 
-/// 0 and a, and n, of an element a/n of the level: the reduction a/n = D0 + a/n to begin with.
+/// 0 and a, and n, of an element a/n of the level: the reduction a/n = D(0) + a/n to begin with.
 ///
 /// `Err` for want of memory alone.
 fn start(alloc: Global, level: u8, of: &Elem) -> Result<(Partial, Poly), AllocError>
