@@ -11,24 +11,21 @@ use Rattle.risch_polynomial.specs.Poly as poly
 use Rattle.risch_level.specs.Levels.{element}
 use Rattle.risch_trace.specs.Traces.{remainder}
 use Rattle.risch_sub.specs.RemainderSequence.{InZ, Member}
+use Rattle.risch_sub.proofs.PushSteps.{onto_kept, onto_stops, onto_whole}
 use Rattle.risch_logarithm_rules.specs.Logarithms.{remainders_onto, multiples_onto}
 
 -- ---- p_0 rem R, p_1 rem R, ..
 module _ (formed m : Member) (i : ℕ) (R : InZ) {rule : Checked Member} (so_far : rule ≡ remainders_onto formed (drop i m) R) where
   pub remainders_whole : length m ≤ i → rule ≡ Ok formed
-  remainders_whole past = so_far ∙ rw (drop_all i m past) refl
+  remainders_whole past = onto_whole (λ p. remainder p R) (λ l m. remainders_onto l m R) (λ k p l. refl) m i formed (λ k. refl) rule so_far past
 
   module _ {p : InZ} (below : i < length m) (is : p ≡ get_or m i p) where
-    next_remainder : rule ≡ and_then (remainder p R) (λ r. remainders_onto (formed ++ r ∷ []) (drop (i + 1) m) R)
-    next_remainder = so_far ∙ rw (drop_more m i p below, ← is) refl
-
     pub remainders_kept : {r : InZ} {next : Member} → remainder p R ≡ Ok r → next ≡ formed ++ r ∷ [] → rule ≡ remainders_onto next (drop (i + 1) m) R
-    remainders_kept e pushed = next_remainder ∙ rw (e, pushed) refl
+    remainders_kept {r} {next} e pushed = onto_kept (λ p. remainder p R) (λ l m. remainders_onto l m R) (λ k p l. refl) m i formed p below is rule so_far r next e pushed
 
     pub remainders_stop : (stop : Fail) (result : Result ⊤ Fail) (written : Member) → IsStopOf stop (remainder p R) → IsErrAnd result (λ s. s ≡ stop) → AgreesWith result written rule
     remainders_stop stop result written e is_err =
-        let s = err_from_is_err_and result is_err in
-        rw (s.1, s.2, next_remainder) (stop_passes stop (remainder p R) (λ r. remainders_onto (formed ++ r ∷ []) (drop (i + 1) m) R) e)
+        onto_stops (λ p. remainder p R) (λ l m. remainders_onto l m R) (λ k p l. refl) m i formed p below is rule so_far stop result written e is_err
 
 -- ---- (p_0·c) rem R, (p_1·c) rem R, ..
 module _ (formed m : Member) (i : ℕ) (c R : InZ) {rule : Checked Member} (so_far : rule ≡ multiples_onto formed (drop i m) c R) where

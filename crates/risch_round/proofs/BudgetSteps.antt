@@ -11,29 +11,29 @@ use Rattle.risch_run.specs.Counted.{Counted, IsCountedRun, IsNatural, IsOutOfBud
 use Rattle.risch_round.specs.Budgets.{within_budget}
 
 -- the cost is at most the budget
-paid : {A : Type 0} (rule : Counted A) (answer : Ruled A) (budget : ℕ) → rule.cost ≤ budget → rule.result ≡ answer → within_budget budget rule ≡ answer
-paid rule answer budget small h =
-    let enough : nat_lt budget rule.cost ≡ false = le-ltb budget rule.cost small in
+paid : {A : Type 0} (counted : Counted A) (answer : Ruled A) (budget : ℕ) → counted.cost ≤ budget → counted.result ≡ answer → within_budget budget counted ≡ answer
+paid counted answer budget small h =
+    let enough : nat_lt budget counted.cost ≡ false = le-ltb budget counted.cost small in
     rw enough h
 
-pub result_is_within : {A : Type 0} (run : Run A) (result : Result A Ended) (rule : Counted A) (after most : ℕ) → run ≡ run_of result → IsCountedRun run rule 0 after most → after ≤ most → OnLeft run (Rose 0 0) →
-    IsResult result (within_budget most rule)
-result_is_within r (Ok a) rule after most e h most_is left =
+pub result_is_within : {A : Type 0} (run : Run A) (result : Result A Ended) (counted : Counted A) (after most : ℕ) → run ≡ run_of result → IsCountedRun run counted 0 after most → after ≤ most → OnLeft run (Rose 0 0) →
+    IsResult result (within_budget most counted)
+result_is_within r (Ok a) counted after most e h most_is left =
     let k = rw e at h in
     let cost = k.1 in
-    paid rule (Ok a) most (omega arith) k.0
-result_is_within {A} r (Err (ended.Stopped stop)) rule after most e h most_is left = stopped (rw e at h)
+    paid counted (Ok a) most (omega arith) k.0
+result_is_within {A} r (Err (ended.Stopped stop)) counted after most e h most_is left = stopped (rw e at h)
   where
-    stopped : IsNatural A rule stop 0 after ⊎ IsOutOfBudget A rule stop 0 after most → within_budget most rule ≡ Err stop
-    stopped (inl k) = let cost = k.cost in paid rule (Err stop) most (omega arith) k.result
+    stopped : IsNatural A counted stop 0 after ⊎ IsOutOfBudget A counted stop 0 after most → within_budget most counted ≡ Err stop
+    stopped (inl k) = let cost = k.cost in paid counted (Err stop) most (omega arith) k.result
     stopped (inr k) =
         let passed = k.passed in
-        let over : nat_lt most rule.cost ≡ true = lt-ltb most rule.cost (omega arith) in
+        let over : nat_lt most counted.cost ≡ true = lt-ltb most counted.cost (omega arith) in
         rw over (ap Err (sym k.budget))
-result_is_within r (Err ended.Left) rule after most e h most_is left =
+result_is_within r (Err ended.Left) counted after most e h most_is left =
     let rose : Rose 0 0 = rw e at left in
     absurd (omega arith)
-result_is_within r (Err ended.Memory) rule after most e h most_is left = tt
+result_is_within r (Err ended.Memory) counted after most e h most_is left = tt
 
 pub if_done_result : {A : Type 0} (run : Run A) (result : Result A Ended) (P : A → Type 0) → run ≡ run_of result → IfDone run P → IfOk result P
 if_done_result run (Ok a) P e h = rw e at h

@@ -68,7 +68,7 @@ fn certificate_of(alloc: Global, program: &AnswerProgram) -> Result<Certificate,
 }
 
 /// The problem, and then its certificate.
-fn certified_values(alloc: Global, program: &CertifiedProgram) -> Result<Certified, Fault>
+pub(crate) fn certified_of(alloc: Global, program: &CertifiedProgram) -> Result<Certified, Fault>
     requires { IsCertifiedProgramOver program.now }
     ensures { (tree : CertifiedTree) → program.now ≡ certified_program tree → Reads result (spec.certified_value tree) }
 {
@@ -80,12 +80,4 @@ fn certified_values(alloc: Global, program: &CertifiedProgram) -> Result<Certifi
         certificate,
         lines,
     })
-}
-
-/// The same of a program that is given away.
-pub(crate) fn certified_of(alloc: Global, program: CertifiedProgram) -> Result<Certified, Fault>
-    requires { IsCertifiedProgramOver program }
-    ensures { (tree : CertifiedTree) → program ≡ certified_program tree → Reads result (spec.certified_value tree) }
-{
-    certified_values(alloc, &program)
 }

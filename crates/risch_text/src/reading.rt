@@ -54,7 +54,7 @@ fn certified(alloc: Global, bytes: &[u8]) -> Result<Option<Certified>, Fault>
     let Some(program) = whole_certified(alloc, bytes)? else {
         return Ok(None);
     };
-    let certified = certified_of(alloc, program)?;
+    let certified = certified_of(alloc, &program)?;
     Ok(Some(certified))
 }
 

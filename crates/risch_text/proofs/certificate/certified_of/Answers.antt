@@ -1,7 +1,7 @@
 use Rattle.std.proofs.Common.{◌∙◌, ap}
 use Rattle.std.proofs.lemmas.Result.{err_from_is_err_and}
 use Rattle.risch_text.proofs.CertifiedValues.{problem_ends, answer_ends, certified_is, certificate_formed}
-use Rattle.risch_text.proofs.certificate.certified_values.Goals as goal
+use Rattle.risch_text.proofs.certificate.certified_of.Goals as goal
 
 pub returns-in_err-problem : goal.returns-in_err-problem
 returns-in_err-problem c =
