@@ -1,7 +1,5 @@
-//! Tests of what no contract says: that a call does not give up for want of memory, and the messages of faults.
+//! Tests of what no contract of `risch_io` says: that no call gives up for want of memory, and the messages of faults.
 #![tactic(auto)]
 
 #[cfg(test)]
 mod outside;
-#[cfg(test)]
-mod run;

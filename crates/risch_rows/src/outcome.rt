@@ -1,6 +1,6 @@
 // What a run wrote and how it ended, and where that is not what is expected.
 ghost use Rattle.std.specs.Prelude.{◌≡◌, ◌≢◌, ◌+◌, ◌<◌, length, OnOk};
-ghost use Rattle.risch_run_cases.specs.Outcome.{Agree};
+ghost use Rattle.risch_rows.specs.Outcome.{Agree};
 
 use crate::escape::Escaped;
 use risch_tables::Report;

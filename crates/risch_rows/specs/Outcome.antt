@@ -1,6 +1,6 @@
 -- When two runs agree.
 use Rattle.std.specs.Prelude.{◌≡◌}
-use Rattle.risch_run_cases.specs.declared.outcome.Outcome.{Outcome}
+use Rattle.risch_rows.specs.declared.outcome.Outcome.{Outcome}
 
 -- The runs wrote the same bytes to each sink, and ended with the same status.
 pub record Agree (expected got : Outcome) : Type 0 where

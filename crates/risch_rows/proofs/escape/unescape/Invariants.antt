@@ -1,6 +1,6 @@
 -- Each step leaves a shorter text.
 use Rattle.std.proofs.Common.{length}
-use Rattle.risch_run_cases.proofs.escape.unescape.Given as goal
+use Rattle.risch_rows.proofs.escape.unescape.Given as goal
 
 abbrev pub decreases-loop-rest : goal.decreases-loop-rest
 decreases-loop-rest l = length l.rest
