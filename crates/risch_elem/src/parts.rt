@@ -69,7 +69,6 @@ impl Elem {
     /// The numerator at a level, over the elements below it; 0 for an element above the level.
     ///
     /// `Err` for want of memory alone.
-    #[tactic(auto, using(risch_element_theory::proofs::PartsRules::numerators))]
     pub fn num_poly(&self, alloc: Global, level: u8) -> Result<Poly, AllocError>
         requires { level < 5 }
         ensures rule { IfOk result (λ it. it ≡ (levels 5).numerator (4 - level) self.now) }
@@ -83,7 +82,6 @@ impl Elem {
     /// The denominator at a level, over the elements below it, which is monic; 1 for an element above the level.
     ///
     /// `Err` for want of memory alone.
-    #[tactic(auto, using(risch_element_theory::proofs::PartsRules::denominators))]
     pub fn den_poly(&self, alloc: Global, level: u8) -> Result<Poly, AllocError>
         requires { level < 5 }
         ensures rule { IfOk result (λ it. it ≡ denominator 5 (4 - level) self.now) }
