@@ -9,6 +9,7 @@
 
 mod forms;
 mod lower;
+mod lowest;
 mod nest;
 
 pub use nest::{Nest, NestRates};

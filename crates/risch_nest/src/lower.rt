@@ -7,15 +7,15 @@ mod numbers;
 mod parts;
 
 use crate::forms::HasForm;
+use crate::lowest::Lowest;
 pub(crate) use derivation::LowerRates;
 use risch_field::{Arith, Fail};
-use risch_frac::Frac;
 use risch_level::Over;
 use std::alloc::{AllocError, Global};
 use std::marker::Model;
 
-/// The three levels, one in another.
-type Levels = Over<Over<Over<Frac>>>;
+/// The two levels of t1 and t2 over that of x.
+type Levels = Over<Over<Lowest>>;
 
 /// An element of Q(x)(t1)(t2), by the rules `field 3`.
 pub(crate) struct Lower {

@@ -4,6 +4,7 @@ ghost use Rattle.std.specs.Prelude.{◌≡◌, ◌<◌, IfOk};
 ghost use Rattle.risch_level.specs.Accessors as spec;
 
 use super::Lower;
+use crate::lowest::Lowest;
 use risch_frac::Frac;
 use risch_level::{Over, variable};
 use std::alloc::{AllocError, Global};
@@ -13,7 +14,7 @@ impl Lower {
     pub(crate) fn number(fraction: Frac) -> Lower
         ensures { result ≡ spec.number 3 fraction }
     {
-        let levels = Over::Below(Over::Below(Over::Below(fraction)));
+        let levels = Over::Below(Over::Below(Lowest::number(fraction)));
         Lower { levels }
     }
 
@@ -22,7 +23,7 @@ impl Lower {
         ensures { result ≡ spec.as_number 3 self.now }
     {
         match &self.levels {
-            Over::Below(Over::Below(Over::Below(fraction))) => Some(*fraction),
+            Over::Below(Over::Below(lowest)) => lowest.as_number(),
             _ => None,
         }
     }
@@ -34,8 +35,7 @@ impl Lower {
         match &self.levels {
             Over::Quotient(_) => Some(2),
             Over::Below(Over::Quotient(_)) => Some(1),
-            Over::Below(Over::Below(Over::Quotient(_))) => Some(0),
-            Over::Below(Over::Below(Over::Below(_))) => None,
+            Over::Below(Over::Below(lowest)) => lowest.level(),
         }
     }
 
@@ -45,9 +45,9 @@ impl Lower {
         ensures { IfOk result (λ it. it ≡ spec.variable 3 level) }
     {
         let levels = match level {
-            0 => Over::Below(Over::Below(variable(alloc)?)),
+            2 => variable(alloc)?,
             1 => Over::Below(variable(alloc)?),
-            _ => variable(alloc)?,
+            _ => Over::Below(Over::Below(Lowest::variable(alloc)?)),
         };
         Ok(Lower { levels })
     }
