@@ -1,5 +1,5 @@
 -- A first operand, and any number of signs each with an operand.
-use Rattle.std.proofs.Common.{◌≡◌, ℕ, suc, List, ◌∷◌, [], ◌++◌, length, Option, Some, refl, sym, ap, ◌∙◌, append_assoc}
+use Rattle.std.proofs.Common.{◌≡◌, ℕ, zero, suc, List, ◌∷◌, [], ◌++◌, length, Option, Some, None, refl, sym, ap, ◌∙◌, append_assoc, Ok}
 use Rattle.risch_expression.specs.Results.{and_next}
 use Rattle.risch_expression.specs.Tree.{Tree}
 use Rattle.risch_expression.specs.Program.{steps}
@@ -55,3 +55,30 @@ joined_more value sign operand left below program_old program program_operand pr
       ∙ ap (λ o. and_next o (λ q. joined_by sign operand below (record { tree = joined operation j.tree q.tree; rest = q.rest }))) p.is;
   written = rw (w, p.written, j.written, steps-joined operation j.tree p.tree) (simp append_assoc);
 }
+
+-- nothing more stands there
+pub joined_end : (value : Read Parsed) (sign : List ℕ → Option Sign) (operand : Rule) (left : ℕ) (program_old program : List Step) (rest : List ℕ) →
+    IsJoined value sign operand left program_old program rest → left ≡ 0 → IsParsed value program_old program rest
+joined_end value sign operand left program_old program rest j n = record {
+  tree = j.tree;
+  is = j.same ∙ ap (λ k. joined_by sign operand k (record { tree = j.tree; rest = rest })) n;
+  written = j.written;
+}
+
+joined_by-done : (sign : List ℕ → Option Sign) (operand : Rule) (left : ℕ) (p : Parsed) → sign p.rest ≡ None → joined_by sign operand left p ≡ Ok p
+joined_by-done sign operand zero p none = refl
+joined_by-done sign operand (suc n) p none = ap (joined_by_sign operand (joined_by sign operand n) p) none
+
+pub joined_done : (value : Read Parsed) (sign : List ℕ → Option Sign) (operand : Rule) (left : ℕ) (program_old program : List Step) (rest behind : List ℕ) →
+    IsJoined value sign operand left program_old program rest → sign rest ≡ None → behind ≡ rest → IsParsed value program_old program behind
+joined_done value sign operand left program_old program rest behind j none same = record {
+  tree = j.tree;
+  is = rw same (j.same ∙ joined_by-done sign operand left (record { tree = j.tree; rest = rest }) none);
+  written = j.written;
+}
+
+-- a fault of the operand behind a sign
+pub joined_fault : (value : Read Parsed) (sign : List ℕ → Option Sign) (operand : Rule) (left below : ℕ) (program_old program : List Step) (rest behind : List ℕ) (operation : Operation) (fault : ReadFault) →
+    IsJoined value sign operand left program_old program rest → left ≡ suc below → sign rest ≡ Some (record { operation = operation; rest = behind }) → IsFaultOf fault (operand behind) → IsFaultOf fault value
+joined_fault value sign operand left below program_old program rest behind operation fault j n s h =
+    rw (one_more value sign operand left below program_old program rest behind operation j n s) (fault_passes fault (operand behind) _ h)

@@ -1,6 +1,6 @@
 -- What the grammar reads is an expression over the known names.
-use Rattle.std.proofs.Common.{◌≡◌, ℕ, zero, suc, ◌+◌, ◌-◌, ◌≤◌, ◌<◌, ◌^◌, List, [], ◌∷◌, length, Option, Some, None, Ok, Err, Bool, true, false, refl, arith, ap, subst, ◌∙◌}
-use Rattle.std.specs.Prelude.{nat_le, nat_lt, ◌==◌, ◌&&◌, option_map}
+use Rattle.std.proofs.Common.{◌≡◌, ℕ, zero, suc, ◌+◌, ◌-◌, ◌≤◌, ◌<◌, ◌^◌, List, [], ◌∷◌, length, Option, Some, None, Result, Ok, Err, Bool, true, false, refl, arith, ap, subst, ◌∙◌}
+use Rattle.std.specs.Prelude.{nat_le, nat_lt, ◌==◌, ◌&&◌, option_map, ⊤, OnOk, IfErr}
 use Rattle.std.specs.Option.{option_map_or}
 use Rattle.std.proofs.lemmas.Bool.{leb-true, ltb-false, cond_both}
 use Rattle.risch_expression.specs.Words.{after_byte, Name, name, Numeral, numeral}
@@ -8,7 +8,7 @@ use Rattle.risch_expression.specs.Fault.{most_number, unexpected}
 use Rattle.risch_expression.specs.Results.{and_next}
 use Rattle.risch_expression.specs.Tree.{Tree, variable, root, IsOver}
 use Rattle.risch_expression.specs.Grammar.{Read, Parsed, parsed, Rule, limited, number_found, wanted_number, variable_named, is_z, named, number_atom, name_atom, atom, raised, with_exponent, power_rule, Sign, joined, joined_by_sign, joined_by, chain, product_sign, sum_sign, term_rule, opposite, first_term, sum_rule, closed, opened, parenthesized, atom_in, power_in, term_in, sum_in, expression}
-use Rattle.risch_expression.specs.Reading.{IsParsed, IsParsedOver, IsFaultOf}
+use Rattle.risch_expression.specs.Reading.{IsParsedOver, IsFaultOf, Reads}
 use Rattle.risch_expression.specs.declared.fault.Cause.{Cause}
 use Rattle.risch_expression.specs.declared.fault.Cause.TheVariants.{Wide}
 use Rattle.risch_expression.specs.declared.fault.ReadFault.{ReadFault}
@@ -172,16 +172,19 @@ module _ (names : Names) where
 pub sum-is_over : (names : Names) (k : ℕ) (bytes : List ℕ) (p : Parsed) → sum_in names k bytes ≡ Ok p → IsOver (names.monomials + 1) names.with_z p.tree
 sum-is_over names k bytes p e = subst (Over names) e (over-sum_in names k bytes)
 
-pub expression_parsed : (names : Names) (bytes : List ℕ) (program_old program_new : List Step) (rest : List ℕ) →
-    IsParsed (sum_in names 64 bytes) program_old program_new rest → IsParsedOver names (expression names bytes) program_old program_new rest
+pub expression_parsed : (result : Result ⊤ ReadFault) (names : Names) (bytes : List ℕ) (program_old program_new : List Step) (rest : List ℕ) →
+    Reads result (sum_in names 64 bytes) program_old program_new rest → OnOk result (IsParsedOver names (expression names bytes) program_old program_new rest)
 unfolding expression
-expression_parsed names bytes program_old program_new rest p = record {
+expression_parsed (Ok u) names bytes program_old program_new rest p = record {
   tree = p.tree;
   is = p.is;
   written = p.written;
   over = sum-is_over names 64 bytes (record { tree = p.tree; rest = rest }) p.is;
 }
+expression_parsed (Err fault) names bytes program_old program_new rest p = tt
 
-pub expression_fault : (names : Names) (bytes : List ℕ) (fault : ReadFault) → IsFaultOf fault (sum_in names 64 bytes) → IsFaultOf fault (expression names bytes)
+pub expression_fault : (result : Result ⊤ ReadFault) (names : Names) (bytes : List ℕ) (program_old program_new : List Step) (rest : List ℕ) →
+    Reads result (sum_in names 64 bytes) program_old program_new rest → IfErr result (λ fault. IsFaultOf fault (expression names bytes))
 unfolding expression
-expression_fault names bytes fault h = h
+expression_fault (Ok u) names bytes program_old program_new rest h = tt
+expression_fault (Err fault) names bytes program_old program_new rest h = h

@@ -4,6 +4,7 @@ mod ReadingExamples
 pub mod Taking
 pub mod Numbers
 pub mod Chains
+pub mod Atoms
 pub mod Rules
 pub mod KnownNames
 -- Values.

@@ -1,9 +1,9 @@
 -- What is taken off the front of the bytes at hand.
-use Rattle.std.proofs.Common.{◌≡◌, ◌≢◌, ℕ, ◌+◌, ◌-◌, ◌*◌, ◌≤◌, ◌<◌, List, [], ◌∷◌, ◌++◌, length, take, drop, true, false, cond, refl, ap, ◌∙◌, arith, Option, Some, None, Ok, Err, ◌==◌}
+use Rattle.std.proofs.Common.{◌≡◌, ◌≢◌, ℕ, ◌+◌, ◌-◌, ◌*◌, ◌≤◌, ◌<◌, List, [], ◌∷◌, ◌++◌, length, take, drop, Bool, true, false, cond, refl, ap, ◌∙◌, arith, Option, Some, None, Ok, Err, ◌==◌}
 use Rattle.std.proofs.lemmas.Bool.{lt-ltb, le-ltb, cond-true, cond-false, eq-eqb, eqb-true, ne_eqb, cond_both}
 use Rattle.std.specs.Prelude.{nat_lt, option_map}
 use Rattle.std.specs.List.{prefix_len}
-use Rattle.risch_expression.specs.Words.{is_blank, after_blanks, after_byte, is_letter, is_letter_or_digit, name, is_digit, goes_on, after_word, Numeral, more_digits, numeral}
+use Rattle.risch_expression.specs.Words.{is_blank, after_blanks, after_byte, is_letter, is_letter_or_digit, front_name, name, is_digit, goes_on, after_word, Numeral, more_digits, numeral}
 use Rattle.risch_expression.specs.Fault.{fault_at, most_number, is_wide}
 use Rattle.risch_expression.specs.Grammar.{limited, number_found}
 use Rattle.risch_expression.specs.Taken.{IsNumber}
@@ -82,19 +82,21 @@ more_digits_large most value bytes b bs e h large =
     rw (more_digits_more value bytes b bs e h) (omega (arith, more_digits_rises (value * 10 + (b - 48)) bs))
 
 -- ---- names
-pub name_end : (bytes : List ℕ) → length bytes ≡ 0 → name bytes ≡ None
+pub begins_end : (bytes : List ℕ) → length bytes ≡ 0 → name bytes ≡ cond false (Some (front_name bytes)) None
 unfolding name
-name_end [] h = refl
-name_end (b ∷ bs) h = absurd (omega arith)
+begins_end [] h = refl
+begins_end (b ∷ bs) h = absurd (omega arith)
 
-pub name_other : (bytes : List ℕ) (b : ℕ) (bs : List ℕ) → bytes ≡ b ∷ bs → is_letter b ≡ false → name bytes ≡ None
+pub begins_more : (begins : Bool) (bytes : List ℕ) (b : ℕ) (bs : List ℕ) → bytes ≡ b ∷ bs → begins ≡ is_letter b → name bytes ≡ cond begins (Some (front_name bytes)) None
 unfolding name
-name_other bytes b bs e h = rw e (cond-false (is_letter b) _ _ h)
+begins_more begins bytes b bs e is = rw (e, is) refl
 
-pub name_found : (bytes : List ℕ) (b : ℕ) (bs text rest : List ℕ) (size : ℕ) → bytes ≡ b ∷ bs → is_letter b ≡ true → size ≡ prefix_len is_letter_or_digit bytes →
-    text ≡ take size bytes → rest ≡ after_blanks (drop size bytes) → name bytes ≡ Some (record { text = text; rest = rest })
-unfolding name
-name_found bytes b bs text rest size e h n t r = rw (t, r, n, e) (cond-true (is_letter b) _ _ h)
+pub name_other : (begins : Bool) (bytes : List ℕ) → name bytes ≡ cond begins (Some (front_name bytes)) None → begins ≡ false → name bytes ≡ None
+name_other begins bytes is h = is ∙ cond-false begins _ _ h
+
+pub name_found : (begins : Bool) (bytes text rest : List ℕ) (size : ℕ) → name bytes ≡ cond begins (Some (front_name bytes)) None → begins ≡ true →
+    size ≡ prefix_len is_letter_or_digit bytes → text ≡ take size bytes → rest ≡ after_blanks (drop size bytes) → name bytes ≡ Some (record { text = text; rest = rest })
+name_found begins bytes text rest size is h n t r = rw (t, r, n) (is ∙ cond-true begins _ _ h)
 
 -- ---- numbers
 pub numeral_end : (bytes : List ℕ) → length bytes ≡ 0 → numeral bytes ≡ None

@@ -1,10 +1,10 @@
 //! The value of an expression: a polynomial in z over the elements of the tower.
 
-ghost use Rattle.std.specs.Prelude.{◌≡◌, ◌≤◌, ◌<◌, ◌+◌, ℕ, Bool, false, [], ◌∷◌, length, nat_le, Some, Ok, IfOk, MatchOption};
+ghost use Rattle.std.specs.Prelude.{◌≡◌, ◌≤◌, ◌<◌, ◌+◌, ℕ, Bool, false, List, [], ◌∷◌, length, nat_le, Some, Ok, IfOk, MatchOption};
 ghost use Rattle.risch_mean.specs.Written.{written_value};
-ghost use Rattle.risch_field.specs.Checked.{Agrees, map_ok};
+ghost use Rattle.risch_field.specs.Checked.{Checked, Agrees, map_ok};
 ghost use Rattle.risch_polynomial.specs.Poly as poly;
-ghost use Rattle.risch_level.specs.Levels.{element};
+ghost use Rattle.risch_level.specs.Levels.{Element, element};
 ghost use Rattle.risch_element_theory.specs.WholeTower.{meaning, Within, AllWithin};
 ghost use Rattle.risch_expression.specs.Tree.{Tree, expression_of, IsOver};
 ghost use Rattle.risch_expression.specs.Program.{steps};
@@ -83,7 +83,7 @@ impl Stack {
         ensures { AnswersWith result self.new (spec.apply Step.Negated self.old) }
     {
         match self.pop() {
-            Some(value) => self.push(value.neg(alloc)?),
+            Some(value) => self.put(negative(alloc, &value)),
             None => Ok(()),
         }
     }
@@ -92,10 +92,25 @@ impl Stack {
     fn join(&mut self, alloc: Global, operation: Operation) -> Result<(), ValueFault>
         ensures { AnswersWith result self.new (spec.apply (Step.Joined operation) self.old) }
     {
-        let (Some(right), Some(left)) = (self.pop(), self.pop()) else {
-            return Ok(());
-        };
-        self.put(operate(alloc, operation, &left, &right))
+        match self.pop() {
+            Some(right) => self.join_with(alloc, operation, &right),
+            None => Ok(()),
+        }
+    }
+
+    /// The value of an operation on the value on the top and this right operand in the place of the value on the top.
+    fn join_with(
+        &mut self,
+        alloc: Global,
+        operation: Operation,
+        right: &Poly,
+    ) -> Result<(), ValueFault>
+        ensures { AnswersWith result self.new (spec.apply (Step.Joined operation) (right.now ∷ self.old)) }
+    {
+        match self.pop() {
+            Some(left) => self.put(operate(alloc, operation, &left, right)),
+            None => Ok(()),
+        }
     }
 
     /// A power of the value on the top in its place.
@@ -103,13 +118,37 @@ impl Stack {
         ensures { AnswersWith result self.new (spec.apply (Step.Raised exponent) self.old) }
     {
         match self.pop() {
-            Some(base) => {
-                let value = power(alloc, &base, exponent)?;
-                self.push(value)
-            }
+            Some(base) => self.put(formed(power(alloc, &base, exponent))),
             None => Ok(()),
         }
     }
+
+    /// Takes the value on the top; 0 where there is none.
+    fn take_top(&mut self, alloc: Global) -> Result<Poly, ValueFault>
+        ensures { Answers result (Ok (spec.top self.old)) }
+    {
+        match self.pop() {
+            Some(value) => Ok(value),
+            None => zero(alloc),
+        }
+    }
+}
+
+/// A value or the stop of the first that cannot be formed, which is a fault.
+fn formed(value: Result<Poly, Fail>) -> Result<Poly, ValueFault>
+    ensures { (rule : Checked (List Element)) → Agrees value rule → Answers result (valued rule) }
+{
+    match value {
+        Ok(value) => Ok(value),
+        Err(stop) => Err(ValueFault::from(stop)),
+    }
+}
+
+/// 0 as a polynomial in z.
+fn zero(alloc: Global) -> Result<Poly, ValueFault>
+    ensures { Answers result (Ok []) }
+{
+    Ok(Poly::of(ElemList::new(alloc))?)
 }
 
 /// e as a polynomial in z.
@@ -154,15 +193,38 @@ fn variable_value(alloc: Global, variable: u8) -> Result<Poly, ValueFault>
     Ok(constant(alloc, element)?)
 }
 
+/// The coefficients of z from exponent 0.
+fn root_coefficients(alloc: Global) -> Result<ElemList, AllocError>
+    ensures { IfOk result (λ list. list ≡ spec.root_value) }
+{
+    let mut coefficients = ElemList::new(alloc);
+    coefficients.push(Elem::zero())?;
+    coefficients.push(Elem::one())?;
+    Ok(coefficients)
+}
+
 /// z.
 #[tactic(auto, using(crate::proofs::Constants::root_trimmed, crate::proofs::Constants::root_short, crate::proofs::Constants::root_light))]
 fn root_value(alloc: Global) -> Result<Poly, ValueFault>
     ensures { Answers result (Ok spec.root_value) }
 {
-    let mut coefficients = ElemList::new(alloc);
-    coefficients.push(Elem::zero())?;
-    coefficients.push(Elem::one())?;
+    let coefficients = root_coefficients(alloc)?;
     Ok(Poly::of(coefficients)?)
+}
+
+/// -p.
+fn negative(alloc: Global, value: &Poly) -> Result<Poly, ValueFault>
+    ensures { Answers result (Ok (poly.negatives element value.now)) }
+{
+    Ok(value.neg(alloc)?)
+}
+
+/// p - q, as the sum of p and -q.
+fn difference(alloc: Global, left: &Poly, right: &Poly) -> Result<Poly, Fail>
+    ensures { Agrees result (poly.sum element left.now (poly.negatives element right.now)) }
+{
+    let opposite = right.neg(alloc)?;
+    left.add(alloc, &opposite)
 }
 
 /// The value of an operation on two polynomials.
@@ -176,9 +238,9 @@ fn operate(
     ensures { Answers result (spec.operate operation left.now right.now) }
 {
     match operation {
-        Operation::Sum => Ok(left.add(alloc, right)?),
-        Operation::Difference => Ok(left.add(alloc, &right.neg(alloc)?)?),
-        Operation::Product => Ok(left.mul(alloc, right)?),
+        Operation::Sum => formed(left.add(alloc, right)),
+        Operation::Difference => formed(difference(alloc, left, right)),
+        Operation::Product => formed(left.mul(alloc, right)),
         Operation::Quotient(place) => ratio(alloc, place, left, right),
     }
 }
@@ -192,7 +254,7 @@ fn ratio(alloc: Global, place: u32, value: &Poly, divisor: &Poly) -> Result<Poly
         return Err(ValueFault::Shape);
     }
     match divisor.coefficient(0) {
-        Some(coefficient) => Ok(divided(alloc, value, coefficient)?),
+        Some(coefficient) => formed(divided(alloc, value, coefficient)),
         None => Err(ValueFault::DivisionByZero(place)),
     }
 }
@@ -236,34 +298,72 @@ fn divided_polynomial(alloc: Global, value: &Poly, divisor: &Elem) -> Result<Pol
     value.scale(alloc, &inverse)
 }
 
-/// p^n, by n - 1 products with p on the right.
-#[tactic(auto, using(crate::proofs::Powers::power_begin, crate::proofs::Powers::power_stops, crate::proofs::Powers::power_more, crate::proofs::Powers::power_done), unfolding(crate::specs::Evaluation::power_of))]
-fn power(alloc: Global, base: &Poly, exponent: u16) -> Result<Poly, Fail>
-    ensures { Agrees result (spec.power_of base.now exponent) }
+/// 1 as a polynomial in z.
+fn one(alloc: Global) -> Result<Poly, Fail>
+    ensures { Agrees result (Ok (spec.constant element.one)) }
 {
-    if exponent == 0 {
-        return Ok(constant(alloc, Elem::one())?);
-    }
-    let mut value = base.copy(alloc)?;
-    for _ in 1..exponent {
+    Ok(constant(alloc, Elem::one())?)
+}
+
+/// What is formed, multiplied by p on the right so many times.
+#[tactic(auto, using(crate::proofs::Powers::multiplied_stops))]
+fn multiplied(alloc: Global, start: Poly, base: &Poly, times: u16) -> Result<Poly, Fail>
+    ensures { Agrees result (spec.multiplied start base.now times) }
+{
+    let mut value = start;
+    for _ in 0..times {
         value = value.mul(alloc, base)?;
     }
     Ok(value)
 }
 
-/// The value that the steps leave on the top of the stack.
-#[tactic(auto, using(crate::proofs::Runs::run_stops, crate::proofs::Runs::run_some, crate::proofs::Runs::run_none))]
-fn value_of(alloc: Global, program: &[Step]) -> Result<Poly, ValueFault>
-    ensures { Answers result (spec.result_of program.now) }
+/// p^n for n above 0.
+#[tactic(auto, using(crate::proofs::Powers::power_multiplied))]
+fn repeated(alloc: Global, base: &Poly, exponent: u16) -> Result<Poly, Fail>
+    requires { 0 < exponent }
+    ensures { Agrees result (spec.power_of base.now exponent) }
+{
+    let start = base.copy(alloc)?;
+    multiplied(alloc, start, base, exponent - 1)
+}
+
+/// p^n, by n - 1 products with p on the right.
+#[tactic(auto, unfolding(crate::specs::Evaluation::power_of))]
+fn power(alloc: Global, base: &Poly, exponent: u16) -> Result<Poly, Fail>
+    ensures { Agrees result (spec.power_of base.now exponent) }
+{
+    if exponent == 0 {
+        return one(alloc);
+    }
+    repeated(alloc, base, exponent)
+}
+
+/// The stack that the steps leave.
+#[tactic(auto, using(crate::proofs::Runs::run_stops, crate::proofs::Runs::run_done))]
+fn run(alloc: Global, program: &[Step]) -> Result<Stack, ValueFault>
+    ensures { Answers result (spec.run program.now []) }
 {
     let mut stack = Stack::new(alloc);
     for step in program {
         stack.apply(alloc, *step)?;
     }
-    match stack.pop() {
-        Some(value) => Ok(value),
-        None => Ok(Poly::of(ElemList::new(alloc))?),
-    }
+    Ok(stack)
+}
+
+/// The value that the steps leave on the top of the stack.
+#[tactic(auto, using(crate::proofs::Runs::top_stops, crate::proofs::Runs::top_left))]
+fn value_of(alloc: Global, program: &[Step]) -> Result<Poly, ValueFault>
+    ensures { Answers result (spec.result_of program.now) }
+{
+    let mut stack = run(alloc, program)?;
+    stack.take_top(alloc)
+}
+
+/// The constant term of a value that is formed.
+fn element_of_value(alloc: Global, value: &Poly) -> Result<Elem, ValueFault>
+    ensures { Answers result (Ok (spec.constant_term value.now)) }
+{
+    Ok(constant_term(alloc, value)?)
 }
 
 /// The constant term of the value that the steps leave on the top of the stack.
@@ -272,7 +372,7 @@ fn element_of(alloc: Global, program: &[Step]) -> Result<Elem, ValueFault>
     ensures { Answers result (map_value spec.constant_term (spec.result_of program.now)) }
 {
     let value = value_of(alloc, program)?;
-    Ok(constant_term(alloc, &value)?)
+    element_of_value(alloc, &value)
 }
 
 /// The value of an expression, given by its steps: a polynomial in z over the elements of the tower.

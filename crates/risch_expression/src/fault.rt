@@ -5,7 +5,7 @@ use risch_frac::Op;
 use std::alloc::{AllocError, AllocFailed};
 
 /// Why bytes do not fit the grammar.
-#[derive(Clone, Copy, Debug, PartialEq, Eq)]
+#[derive(Clone, Copy)]
 pub enum Cause {
     /// A token that fits no rule.
     Byte,
@@ -26,14 +26,14 @@ pub enum Cause {
 }
 
 /// The first fault of syntax: its cause, and how many bytes are left at its place.
-#[derive(Clone, Copy, Debug, PartialEq, Eq)]
+#[derive(Clone, Copy)]
 pub struct SyntaxFault {
     pub left: u32,
     pub cause: Cause,
 }
 
 /// Why no expression is read.
-#[derive(Clone, Copy, Debug, PartialEq, Eq)]
+#[derive(Clone, Copy)]
 pub enum ReadFault {
     /// The bytes do not fit the grammar.
     Syntax(SyntaxFault),
@@ -64,7 +64,7 @@ impl From<AllocError> for ReadFault {
 }
 
 /// Why an expression has no value.
-#[derive(Clone, Copy, Debug, PartialEq, Eq)]
+#[derive(Clone, Copy)]
 pub enum ValueFault {
     /// A division by 0, where so many bytes are left at the sign `/`.
     DivisionByZero(u32),

@@ -5,7 +5,7 @@ ghost use Rattle.std.specs.Prelude.{◌≡◌};
 use crate::program::Step;
 
 /// The known names: x, t1 to tn for n monomials (at most t9), and z where it may stand.
-#[derive(Clone, Copy, Debug, PartialEq, Eq)]
+#[derive(Clone, Copy)]
 pub struct Names {
     pub monomials: u8,
     pub with_z: bool,

@@ -1,9 +1,9 @@
 //! The bytes at hand: what stands at their front is taken off, and the blanks behind it.
 
-ghost use Rattle.std.specs.Prelude.{◌≡◌, ◌≤◌, ◌<◌, ◌^◌, false, true, length, IfOk, IfSome, MatchOption, option_map};
+ghost use Rattle.std.specs.Prelude.{◌≡◌, ◌≤◌, ◌<◌, ◌^◌, ◌+◌, ◌-◌, ◌*◌, ℕ, cond, Some, None, List, length, IfOk, IfSome, MatchOption, option_map};
 ghost use Rattle.std.specs.List.{prefix_len};
 ghost use Rattle.risch_expression.specs.Words as spec;
-ghost use Rattle.risch_expression.specs.Words.{after_blanks, after_byte, after_word, is_letter_or_digit};
+ghost use Rattle.risch_expression.specs.Words.{after_blanks, after_byte, after_word, front_name, is_letter_or_digit};
 ghost use Rattle.risch_expression.specs.Fault as fault;
 ghost use Rattle.risch_expression.specs.Fault.{unexpected, fault_at};
 ghost use Rattle.risch_expression.specs.Grammar.{number_found, wanted_number};
@@ -112,12 +112,11 @@ impl<'a> Words<'a> {
     }
 
     /// Takes the name, a letter and the letters and digits that follow it, if the bytes begin with one.
-    #[tactic(auto, using(crate::proofs::Taking::name_end, crate::proofs::Taking::name_other, crate::proofs::Taking::name_found))]
+    #[tactic(auto, using(crate::proofs::Taking::name_other, crate::proofs::Taking::name_found))]
     pub fn take_name(&mut self) -> Option<&'a [u8]>
         ensures { TakesName (option_map (λ text. text.now) result) (spec.name self.old) self.old self.new }
     {
-        let (first, _) = self.rest.split_first()?;
-        if !is_letter(*first) {
+        if !begins_name(self.rest) {
             return None;
         }
         let (name, after) = self.rest.split_at(name_len(self.rest));
@@ -201,6 +200,17 @@ fn goes_on(bytes: &[u8]) -> bool
     }
 }
 
+// Whether the bytes begin with a name.
+#[tactic(auto, using(crate::proofs::Taking::begins_end))]
+fn begins_name(bytes: &[u8]) -> bool
+    ensures { spec.name bytes.now ≡ cond result (Some (front_name bytes.now)) None }
+{
+    match bytes.split_first() {
+        Some((first, _)) => is_letter(*first),
+        None => false,
+    }
+}
+
 // How many letters and digits the bytes begin with.
 fn name_len(bytes: &[u8]) -> usize
     ensures value { result ≡ prefix_len is_letter_or_digit bytes.now }
@@ -246,7 +256,14 @@ fn numeral(bytes: &[u8]) -> Digits<'_>
     if !is_digit(*first) {
         return Digits::None;
     }
-    match more_digits(u128::from(*first - b'0'), after) {
+    number_from(*first - b'0', after)
+}
+
+// The number whose digits are this one and those at the front of the bytes.
+fn number_from(first: u8, after: &[u8]) -> Digits<'_>
+    ensures { (bytes : List ℕ) → spec.numeral bytes ≡ Some (spec.more_digits first after.now) → length after.now ≤ length bytes → IsDigits result bytes }
+{
+    match more_digits(u128::from(first), after) {
         Some((value, rest)) if value <= MOST_NUMBER => Digits::Value(value, rest),
         _ => Digits::Wide,
     }
@@ -262,6 +279,14 @@ fn is_wide(bytes: &[u8]) -> bool
     }
 }
 
+// The number with one digit more. There is none only if it is at least 2^128.
+fn with_digit(value: u128, digit: u8) -> Option<u128>
+    requires { 48 ≤ digit }
+    ensures { MatchOption result (2 ^ 128 ≤ value * 10 + (digit - 48)) (λ n. n ≡ value * 10 + (digit - 48)) }
+{
+    value.checked_mul(10)?.checked_add(u128::from(digit - b'0'))
+}
+
 // The number with these digits after those of `first`, and the bytes behind it. There is none only if it is at least 2^128.
 #[tactic(auto, using(crate::proofs::Taking::more_digits_end, crate::proofs::Taking::more_digits_more, crate::proofs::Taking::more_digits_stop, crate::proofs::Taking::more_digits_large))]
 fn more_digits(first: u128, bytes: &[u8]) -> Option<(u128, &[u8])>
@@ -275,9 +300,7 @@ fn more_digits(first: u128, bytes: &[u8]) -> Option<(u128, &[u8])>
         if !is_digit(*byte) {
             return Some((value, past_blanks(rest)));
         }
-        value = value
-            .checked_mul(10)?
-            .checked_add(u128::from(*byte - b'0'))?;
+        value = with_digit(value, *byte)?;
         rest = after;
     }
     Some((value, rest))
