@@ -51,24 +51,6 @@ module _ (print : Element → Printed) (name : List ℕ) where
       now ∙ ap (λ t. add_text higher (print_term name c t (next - 1))) made
       ∙ sym (terms_below p next c higher some most is before ∙ cond-false (element.is_zero c) _ _ other)
 
-  -- the same where the coefficient is read as one that may not be there
-  pub terms_skip_read : (p : List Element) (next : ℕ) (higher : List ℕ) → 0 < next → next ≤ length p → None ≡ poly.nonzero element (slice_get p (next - 1)) →
-      higher ≡ print_terms print name next (drop next p) → higher ≡ print_terms print name (next - 1) (drop (next - 1) p)
-  terms_skip_read p next higher some most none before =
-      let inside : next - 1 < length p = omega arith in
-      let c : Element = get_or p (next - 1) element.zero in
-      let found : slice_get p (next - 1) ≡ Some c = slice_get-get_or p (next - 1) element.zero inside in
-      let is : get_or p (next - 1) c ≡ c = get_or_from_slice_get p (next - 1) c c found in
-      terms_skip p next c higher some most (sym is) (none_nonzero c (none ∙ ap (poly.nonzero element) found)) before
-
-  pub terms_more_read : (p : List Element) (next : ℕ) (c : Element) (printed : Printed) (higher terms : List ℕ) → 0 < next → next ≤ length p →
-      Some c ≡ poly.nonzero element (slice_get p (next - 1)) → printed ≡ print c → higher ≡ print_terms print name next (drop next p) →
-      terms ≡ add_text higher (print_term name c printed (next - 1)) → terms ≡ print_terms print name (next - 1) (drop (next - 1) p)
-  terms_more_read p next c printed higher terms some most found made before now =
-      let there = some_nonzero (slice_get p (next - 1)) c found in
-      let is : get_or p (next - 1) c ≡ c = get_or_from_slice_get p (next - 1) c c there.0 in
-      terms_more p next c printed higher terms some most (sym is) there.1 made before now
-
 -- ---- how many coefficients are not 0
 abbrev pub is_term : Element → Bool
 is_term c = not (element.is_zero c)

@@ -8,7 +8,7 @@ use risch_rootsum::Integral;
 use std::alloc::{AllocError, Global};
 
 /// The step of a run. A level is named by its number from 0, which is that of x.
-#[derive(Clone, Copy, Debug, PartialEq, Eq)]
+#[derive(Clone, Copy)]
 pub enum Place {
     /// Reading the input.
     Reading,
@@ -76,16 +76,21 @@ impl Answer {
         ensures { IfOk result (λ copy. copy ≡ self.now) }
     {
         match self {
-            Answer::Integral(integral) => Ok(Answer::Integral(integral.copy(alloc)?)),
-            Answer::Refuted(chain) => Ok(Answer::Refuted(chain.copy(alloc)?)),
-            Answer::Stopped(halt) => Ok(Answer::Stopped(halt.copy(alloc)?)),
-            Answer::Disagree { left, right } => {
-                let left = left.copy(alloc)?;
-                let right = right.copy(alloc)?;
-                Ok(Answer::Disagree { left, right })
-            }
+            Answer::Integral(integral) => integral.copy(alloc).map(Answer::Integral),
+            Answer::Refuted(chain) => chain.copy(alloc).map(Answer::Refuted),
+            Answer::Stopped(halt) => halt.copy(alloc).map(Answer::Stopped),
+            Answer::Disagree { left, right } => disagree(alloc, left, right),
         }
     }
+}
+
+/// The answer that these two elements, once more, are not the same.
+fn disagree(alloc: Global, left: &Elem, right: &Elem) -> Result<Answer, AllocError>
+    ensures { IfOk result (λ answer. answer ≡ Answer.Disagree left.now right.now) }
+{
+    let left = left.copy(alloc)?;
+    let right = right.copy(alloc)?;
+    Ok(Answer::Disagree { left, right })
 }
 
 impl Certificate {

@@ -1,8 +1,6 @@
 //! The texts of elements, and of polynomials over them.
 
-ghost use Rattle.std.specs.Prelude.{◌≡◌, ◌+◌, ◌≤◌, ◌<◌, ◌^◌, length, map, string_bytes, IfOk};
-ghost use Rattle.risch_polynomial.specs.Poly as poly;
-ghost use Rattle.risch_level.specs.Levels.{element};
+ghost use Rattle.std.specs.Prelude.{◌≡◌, ◌+◌, ◌≤◌, ◌<◌, ◌^◌, false, length, map, string_bytes, IfOk};
 ghost use Rattle.risch_level.specs.Accessors as accessors;
 ghost use Rattle.risch_cert.specs.Printing as spec;
 
@@ -52,7 +50,7 @@ pub fn print_poly(alloc: Global, level: u8, polynomial: &Poly) -> Result<Text, A
     ensures { IfOk result (λ text. text ≡ spec.print_in_variable level polynomial.now) }
 {
     let name = variable_name(alloc, level)?;
-    let text = print_polynomial(alloc, 5, name.as_str(), polynomial)?;
+    let text = print_polynomial(alloc, 5, name.as_str(), coefficients_of(polynomial))?;
     Ok(bytes_of(text))
 }
 
@@ -66,19 +64,11 @@ pub(crate) fn element_text(alloc: Global, element: &Elem) -> Result<String, Allo
 }
 
 /// The polynomial in z with these coefficients from exponent 0.
-#[tactic(auto, unfolding(crate::specs::Printing::print_in_z, crate::specs::Printing::print_polynomial))]
+#[tactic(auto, unfolding(crate::specs::Printing::print_in_z))]
 pub(crate) fn text_in_z(alloc: Global, coefficients: &[Elem]) -> Result<String, AllocError>
     ensures { IfOk result (λ text. string_bytes text ≡ spec.print_in_z coefficients.now) }
 {
-    let mut terms = String::new(alloc);
-    for exponent in (0..coefficients.len()).rev() {
-        let coefficient = &coefficients[exponent];
-        if !coefficient.is_zero() {
-            let printed = print_below(alloc, 5, coefficient)?;
-            add_term(alloc, &mut terms, "z", coefficient, printed, exponent)?;
-        }
-    }
-    or_zero(alloc, terms)
+    print_polynomial(alloc, 5, "z", coefficients)
 }
 
 /// The fractions as elements.
@@ -100,6 +90,13 @@ pub(crate) fn fractions_in_z(alloc: Global, fractions: &[Frac]) -> Result<String
     text_in_z(alloc, elements.as_slice())
 }
 
+/// The coefficients from exponent 0.
+fn coefficients_of(polynomial: &Poly) -> &[Elem]
+    ensures { result.now ≡ polynomial.now }
+{
+    polynomial.inner().coefficients()
+}
+
 /// The length of the list of the coefficients from exponent 0: deg p + 1, and 0 for p = 0.
 fn coefficient_count(polynomial: &Poly) -> usize
     ensures value { result ≡ length polynomial.now }
@@ -108,20 +105,6 @@ fn coefficient_count(polynomial: &Poly) -> usize
     match polynomial.degree() {
         Some(degree) => usize::from(degree) + 1,
         None => 0,
-    }
-}
-
-/// Whether p = 1.
-#[tactic(auto, using(crate::proofs::LevelSteps::is_one_constant, crate::proofs::LevelSteps::is_one_absent, crate::proofs::LevelSteps::is_one_other))]
-fn is_one(polynomial: &Poly) -> bool
-    ensures { result ≡ poly.is_one element polynomial.now }
-{
-    match polynomial.degree() {
-        Some(0) => match polynomial.coefficient(0) {
-            Some(constant) => constant.is_one(),
-            None => false,
-        },
-        _ => false,
     }
 }
 
@@ -149,6 +132,39 @@ fn print_number(alloc: Global, element: &Elem) -> Result<PrintedElem, AllocError
     Ok(PrintedElem { text, long: false })
 }
 
+/// Whether an element is of this level.
+fn is_at(element: &Elem, level: u8) -> bool
+    ensures { result ≡ spec.is_level level (accessors.level 5 element.now) }
+{
+    match element.level() {
+        Some(own) => own == level,
+        None => false,
+    }
+}
+
+/// The name of the variable of a level of the tower.
+#[tactic(auto, using(crate::proofs::LevelSteps::name_x, crate::proofs::LevelSteps::name_t1, crate::proofs::LevelSteps::name_t2, crate::proofs::LevelSteps::name_t3, crate::proofs::LevelSteps::name_t4))]
+fn name_of(level: u8) -> &'static str
+    requires { level < 5 }
+    ensures { result.now ≡ spec.variable_name level }
+{
+    match level {
+        0 => "x",
+        1 => "t1",
+        2 => "t2",
+        3 => "t3",
+        _ => "t4",
+    }
+}
+
+/// The quotient of two polynomials with these texts, which is not long.
+fn printed_quotient(alloc: Global, top: &str, bottom: &str) -> Result<PrintedElem, AllocError>
+    ensures { IfOk result (λ printed. printed ≡ record { text = spec.print_quotient top.now bottom.now; long = false }) }
+{
+    let text = print_quotient(alloc, top, bottom)?;
+    Ok(PrintedElem { text, long: false })
+}
+
 /// An element in which only the first n variables occur.
 #[cycle(element)]
 #[tactic(auto, using(crate::proofs::LevelSteps::print_below_level, crate::proofs::LevelSteps::print_below_other))]
@@ -160,14 +176,12 @@ fn print_below(alloc: Global, n: u8, element: &Elem) -> Result<PrintedElem, Allo
         return print_number(alloc, element);
     }
     let below = n - 1;
-    match element.level() {
-        Some(level) if level == below => {
-            let numerator = element.num_poly(alloc, below)?;
-            let denominator = element.den_poly(alloc, below)?;
-            print_ratio(alloc, below, &numerator, &denominator)
-        }
-        _ => print_below(alloc, below, element),
+    if !is_at(element, below) {
+        return print_below(alloc, below, element);
     }
+    let numerator = element.num_poly(alloc, below)?;
+    let denominator = element.den_poly(alloc, below)?;
+    print_ratio(alloc, below, &numerator, &denominator)
 }
 
 /// The quotient of two polynomials in the variable of a level, whose coefficients lie below it.
@@ -182,34 +196,34 @@ fn print_ratio(
     requires { level < 5 }
     ensures { IfOk result (λ printed. printed ≡ spec.print_ratio (spec.print_below level) (spec.variable_name level) numerator.now denominator.now) }
 {
-    let name = variable_name(alloc, level)?;
-    let top = print_polynomial(alloc, level, name.as_str(), numerator)?;
-    if is_one(denominator) {
+    let name = name_of(level);
+    let top = print_polynomial(alloc, level, name, coefficients_of(numerator))?;
+    if denominator.is_one() {
         return Ok(PrintedElem {
             text: top,
             long: is_sum(numerator),
         });
     }
-    let bottom = print_polynomial(alloc, level, name.as_str(), denominator)?;
-    let text = print_quotient(alloc, top.as_str(), bottom.as_str())?;
-    Ok(PrintedElem { text, long: false })
+    let bottom = print_polynomial(alloc, level, name, coefficients_of(denominator))?;
+    printed_quotient(alloc, top.as_str(), bottom.as_str())
 }
 
-/// A polynomial in a variable, in whose coefficients only the first n variables occur.
+/// The polynomial in a variable with these coefficients from exponent 0, in which only the first n variables occur.
 #[cycle(element)]
 #[tactic(auto, unfolding(crate::specs::Printing::print_polynomial))]
 fn print_polynomial(
     alloc: Global,
     n: u8,
     name: &str,
-    polynomial: &Poly,
+    coefficients: &[Elem],
 ) -> Result<String, AllocError>
     requires { n ≤ 5 }
-    ensures { IfOk result (λ text. string_bytes text ≡ spec.print_polynomial (spec.print_below n) name.now polynomial.now) }
+    ensures { IfOk result (λ text. string_bytes text ≡ spec.print_polynomial (spec.print_below n) name.now coefficients.now) }
 {
     let mut terms = String::new(alloc);
-    for exponent in (0..coefficient_count(polynomial)).rev() {
-        if let Some(coefficient) = polynomial.coefficient(exponent as u16) {
+    for exponent in (0..coefficients.len()).rev() {
+        let coefficient = &coefficients[exponent];
+        if !coefficient.is_zero() {
             let printed = print_below(alloc, n, coefficient)?;
             add_term(alloc, &mut terms, name, coefficient, printed, exponent)?;
         }

@@ -1,7 +1,9 @@
 //! The lines of certificates and answers.
 
-ghost use Rattle.std.specs.Prelude.{◌≡◌, ◌++◌, string_bytes, IfOk, OnOk};
+ghost use Rattle.std.specs.Prelude.{◌≡◌, ◌++◌, codes, decimal, string_bytes, IfOk, OnOk};
+ghost use Rattle.risch_cert.specs.Printing.{print_fraction, variable_name, print_element, print_in_z, print_fractions_in_z};
 ghost use Rattle.risch_cert.specs.Answers as spec;
+ghost use Rattle.risch_cert.specs.Answers.{line};
 
 use crate::answer::{Answer, Certificate, Halt, Place};
 use crate::chain::{Chain, End};
@@ -43,13 +45,52 @@ pub fn print_answer(alloc: Global, answer: &Answer) -> Result<Text, AllocError>
     }
 }
 
+/// Appends a label and a text behind it.
+#[tactic(auto, using(crate::proofs::LineSteps::further))]
+fn push_labelled(text: &mut String, label: &str, part: &str) -> Result<(), AllocError>
+    ensures { OnOk result (string_bytes text.new ≡ string_bytes text.old ++ (label.now ++ part.now)) }
+{
+    text.push_str(label)?;
+    text.push_str(part)
+}
+
+/// Appends a label and a text behind it, which end a line.
+#[tactic(auto, using(crate::proofs::LineSteps::further))]
+fn push_line(text: &mut String, label: &str, part: &str) -> Result<(), AllocError>
+    ensures { OnOk result (string_bytes text.new ≡ string_bytes text.old ++ line (label.now ++ part.now)) }
+{
+    push_labelled(text, label, part)?;
+    text.push_str("\n")
+}
+
+/// Appends a label and the text of an element, which end a line.
+#[tactic(auto, using(crate::proofs::LineSteps::line_of))]
+fn push_element_line(
+    alloc: Global,
+    text: &mut String,
+    label: &str,
+    element: &Elem,
+) -> Result<(), AllocError>
+    ensures { OnOk result (string_bytes text.new ≡ string_bytes text.old ++ line (label.now ++ print_element element.now)) }
+{
+    let printed = element_text(alloc, element)?;
+    push_line(text, label, printed.as_str())
+}
+
+/// Appends the lines of the part of an integral that is an element, and of its logarithmic parts.
+fn push_parts(alloc: Global, text: &mut String, integral: &Integral) -> Result<(), AllocError>
+    ensures { OnOk result (string_bytes text.new ≡ string_bytes text.old ++ (line (codes "part " ++ print_element integral.now.part) ++ spec.print_log_parts integral.now.logs)) }
+{
+    push_element_line(alloc, text, "part ", &integral.part)?;
+    push_log_parts(alloc, text, integral.logs.as_slice())
+}
+
 /// An integral: its part and its logarithmic parts.
 fn print_integral(alloc: Global, integral: &Integral) -> Result<Text, AllocError>
     ensures { IfOk result (λ text. text ≡ spec.print_integral integral.now) }
 {
-    let part = element_text(alloc, &integral.part)?;
-    let mut text = format!(in alloc; "integral\npart {part}\n")?;
-    push_log_parts(alloc, &mut text, integral.logs.as_slice())?;
+    let mut text = String::from_str(alloc, "integral\n")?;
+    push_parts(alloc, &mut text, integral)?;
     text.push_str("end\n")?;
     Ok(bytes_of(text))
 }
@@ -58,21 +99,27 @@ fn print_integral(alloc: Global, integral: &Integral) -> Result<Text, AllocError
 fn print_chain(alloc: Global, chain: &Chain) -> Result<Text, AllocError>
     ensures { IfOk result (λ text. text ≡ spec.print_chain chain.now) }
 {
-    let part = element_text(alloc, &chain.partial.part)?;
-    let mut text = format!(in alloc; "refuted\npart {part}\n")?;
-    push_log_parts(alloc, &mut text, chain.partial.logs.as_slice())?;
-    push_rest(alloc, &mut text, &chain.rest)?;
-    push_end(alloc, &mut text, chain.level, &chain.end)?;
+    let mut text = String::from_str(alloc, "refuted\n")?;
+    push_parts(alloc, &mut text, &chain.partial)?;
+    push_conclusion(alloc, &mut text, chain)?;
     Ok(bytes_of(text))
 }
 
+/// Appends the lines of the rest and of the end of a chain.
+#[tactic(auto, using(crate::proofs::LineSteps::further))]
+fn push_conclusion(alloc: Global, text: &mut String, chain: &Chain) -> Result<(), AllocError>
+    ensures { OnOk result (string_bytes text.new ≡ string_bytes text.old ++ (spec.print_rest chain.now.rest ++ spec.print_end chain.now.level chain.now.end)) }
+{
+    push_rest(alloc, text, &chain.rest)?;
+    push_end(alloc, text, chain.level, &chain.end)
+}
+
 /// Appends the line of a rest.
+#[tactic(auto, unfolding(crate::specs::Answers::print_rest))]
 fn push_rest(alloc: Global, text: &mut String, rest: &Elem) -> Result<(), AllocError>
     ensures { OnOk result (string_bytes text.new ≡ string_bytes text.old ++ spec.print_rest rest.now) }
 {
-    let rest = element_text(alloc, rest)?;
-    writeln!(text, "rest {rest}")?;
-    Ok(())
+    push_element_line(alloc, text, "rest ", rest)
 }
 
 /// Appends the line of an end at a level.
@@ -84,7 +131,17 @@ fn push_end(alloc: Global, text: &mut String, level: u8, end: &End) -> Result<()
     }
 }
 
+/// Appends which power of the residues at a level it is.
+#[tactic(auto, using(crate::proofs::LineSteps::power_of))]
+fn push_power_of(alloc: Global, text: &mut String, level: u8, power: u16) -> Result<(), AllocError>
+    ensures { OnOk result (string_bytes text.new ≡ string_bytes text.old ++ (codes "end residue of " ++ (variable_name level ++ (codes " power " ++ decimal power)))) }
+{
+    let name = variable_name(alloc, level)?;
+    write!(text, "end residue of {name} power {power}")
+}
+
 /// Appends the line of an end by the trace of a power of the residues.
+#[tactic(auto, using(crate::proofs::LineSteps::residue_line), unfolding(crate::specs::Answers::print_residue))]
 fn push_residue(
     alloc: Global,
     text: &mut String,
@@ -94,10 +151,8 @@ fn push_residue(
 ) -> Result<(), AllocError>
     ensures { OnOk result (string_bytes text.new ≡ string_bytes text.old ++ spec.print_residue level power trace.now) }
 {
-    let name = variable_name(alloc, level)?;
-    let trace = element_text(alloc, trace)?;
-    writeln!(text, "end residue of {name} power {power} trace {trace}")?;
-    Ok(())
+    push_power_of(alloc, text, level, power)?;
+    push_element_line(alloc, text, " trace ", trace)
 }
 
 /// Appends a line for each logarithmic part.
@@ -122,24 +177,56 @@ fn push_log_part(alloc: Global, text: &mut String, part: &LogPart) -> Result<(),
     }
 }
 
+/// Appends what stands before the argument of the sum over the roots of a polynomial in z.
+#[tactic(auto, using(crate::proofs::LineSteps::label_of))]
+fn push_roots(alloc: Global, text: &mut String, roots: &[Frac]) -> Result<(), AllocError>
+    ensures { OnOk result (string_bytes text.new ≡ string_bytes text.old ++ (codes "sum " ++ print_fractions_in_z roots.now)) }
+{
+    let roots = fractions_in_z(alloc, roots)?;
+    push_labelled(text, "sum ", roots.as_str())
+}
+
+/// Appends the argument S of a sum over roots, which ends a line.
+#[tactic(auto, using(crate::proofs::LineSteps::line_of))]
+fn push_sum_argument(alloc: Global, text: &mut String, argument: &[Elem]) -> Result<(), AllocError>
+    ensures { OnOk result (string_bytes text.new ≡ string_bytes text.old ++ line (codes " of " ++ print_in_z argument.now)) }
+{
+    let argument = text_in_z(alloc, argument)?;
+    push_line(text, " of ", argument.as_str())
+}
+
 /// Appends the line of the sum over the roots z of R of z·log S.
 fn push_root_sum(alloc: Global, text: &mut String, part: &LogPart) -> Result<(), AllocError>
     ensures { OnOk result (string_bytes text.new ≡ string_bytes text.old ++ spec.print_root_sum part.now) }
 {
-    let roots = fractions_in_z(alloc, part.poly.as_slice())?;
-    let argument = text_in_z(alloc, part.arg.as_slice())?;
-    writeln!(text, "sum {roots} of {argument}")?;
-    Ok(())
+    push_roots(alloc, text, part.poly.as_slice())?;
+    push_sum_argument(alloc, text, part.arg.as_slice())
+}
+
+/// Appends what stands before the argument of a logarithm.
+#[tactic(auto, using(crate::proofs::LineSteps::label_of))]
+fn push_factor(alloc: Global, text: &mut String, poly: &[Frac]) -> Result<(), AllocError>
+    ensures { OnOk result (string_bytes text.new ≡ string_bytes text.old ++ (codes "log " ++ print_fraction (spec.factor poly.now))) }
+{
+    let factor = print_fraction(alloc, factor_of(poly))?;
+    push_labelled(text, "log ", factor.as_str())
+}
+
+/// Appends the argument U of a logarithm, which ends a line.
+#[tactic(auto, using(crate::proofs::LineSteps::line_of))]
+fn push_argument(alloc: Global, text: &mut String, argument: &[Elem]) -> Result<(), AllocError>
+    ensures { OnOk result (string_bytes text.new ≡ string_bytes text.old ++ line (codes " of " ++ spec.print_argument argument.now)) }
+{
+    let argument = print_argument(alloc, argument)?;
+    push_line(text, " of ", argument.as_str())
 }
 
 /// Appends the line of C·log U.
 fn push_logarithm(alloc: Global, text: &mut String, part: &LogPart) -> Result<(), AllocError>
     ensures { OnOk result (string_bytes text.new ≡ string_bytes text.old ++ spec.print_logarithm part.now) }
 {
-    let factor = print_fraction(alloc, factor_of(part.poly.as_slice()))?;
-    let argument = print_argument(alloc, part.arg.as_slice())?;
-    writeln!(text, "log {factor} of {argument}")?;
-    Ok(())
+    push_factor(alloc, text, part.poly.as_slice())?;
+    push_argument(alloc, text, part.arg.as_slice())
 }
 
 /// C = -R_0, for R = z - C.
@@ -162,14 +249,50 @@ fn print_argument(alloc: Global, argument: &[Elem]) -> Result<String, AllocError
     }
 }
 
+/// Appends the step in which a run stops, which ends a line.
+#[tactic(auto, using(crate::proofs::LineSteps::line_of))]
+fn push_place(alloc: Global, text: &mut String, place: Place) -> Result<(), AllocError>
+    ensures { OnOk result (string_bytes text.new ≡ string_bytes text.old ++ line (codes " in " ++ spec.print_place place)) }
+{
+    let place = print_place(alloc, place)?;
+    push_line(text, " in ", place.as_str())
+}
+
 /// The line of a stop in a step.
+#[tactic(auto, using(crate::proofs::LineSteps::halt_line), unfolding(crate::specs::Answers::print_halt))]
 fn print_halt(alloc: Global, halt: &Halt) -> Result<Text, AllocError>
     ensures { IfOk result (λ text. text ≡ spec.print_halt halt.now) }
 {
-    let stop = print_stop(alloc, &halt.stop)?;
-    let place = print_place(alloc, halt.place)?;
-    let text = format!(in alloc; "{stop} in {place}\n")?;
+    let mut text = print_stop(alloc, &halt.stop)?;
+    push_place(alloc, &mut text, halt.place)?;
     Ok(bytes_of(text))
+}
+
+/// A label and a text behind it.
+fn labelled(alloc: Global, label: &str, part: &str) -> Result<String, AllocError>
+    ensures { IfOk result (λ text. string_bytes text ≡ label.now ++ part.now) }
+{
+    let mut text = String::from_str(alloc, label)?;
+    text.push_str(part)?;
+    Ok(text)
+}
+
+/// A label and the text of an element behind it.
+#[tactic(auto, using(crate::proofs::LineSteps::behind))]
+fn labelled_element(alloc: Global, label: &str, element: &Elem) -> Result<String, AllocError>
+    ensures { IfOk result (λ text. string_bytes text ≡ label.now ++ print_element element.now) }
+{
+    let printed = element_text(alloc, element)?;
+    labelled(alloc, label, printed.as_str())
+}
+
+/// A label and the name of the variable of a level behind it.
+#[tactic(auto, using(crate::proofs::LineSteps::behind))]
+fn labelled_variable(alloc: Global, label: &str, level: u8) -> Result<String, AllocError>
+    ensures { IfOk result (λ text. string_bytes text ≡ label.now ++ variable_name level) }
+{
+    let name = variable_name(alloc, level)?;
+    labelled(alloc, label, name.as_str())
 }
 
 /// What stops a run.
@@ -178,19 +301,10 @@ fn print_stop(alloc: Global, stop: &Stop) -> Result<String, AllocError>
     ensures { IfOk result (λ text. string_bytes text ≡ spec.print_stop stop.now) }
 {
     match stop {
-        Stop::Overflow(op) => {
-            let operation = print_operation(*op);
-            format!(in alloc; "overflow {operation}")
-        }
+        Stop::Overflow(op) => labelled(alloc, "overflow ", print_operation(*op)),
         Stop::Size => String::from_str(alloc, "size"),
-        Stop::Case(case) => {
-            let case = print_case(*case);
-            format!(in alloc; "case {case}")
-        }
-        Stop::NotSound(constant) => {
-            let constant = element_text(alloc, constant)?;
-            format!(in alloc; "not sound {constant}")
-        }
+        Stop::Case(case) => labelled(alloc, "case ", print_case(*case)),
+        Stop::NotSound(constant) => labelled_element(alloc, "not sound ", constant),
         Stop::Budget => String::from_str(alloc, "budget"),
     }
 }
@@ -216,6 +330,14 @@ fn print_case(case: Case) -> &'static str
     }
 }
 
+/// A branch, by its number, of the round of a level.
+fn print_branch(alloc: Global, level: u8, number: u32) -> Result<String, AllocError>
+    ensures { IfOk result (λ text. string_bytes text ≡ codes "branch " ++ (decimal number ++ (codes " of " ++ variable_name level))) }
+{
+    let name = variable_name(alloc, level)?;
+    format!(in alloc; "branch {number} of {name}")
+}
+
 /// The step in which a run stops.
 #[tactic(auto, unfolding(crate::specs::Answers::print_place))]
 fn print_place(alloc: Global, place: Place) -> Result<String, AllocError>
@@ -223,29 +345,21 @@ fn print_place(alloc: Global, place: Place) -> Result<String, AllocError>
 {
     match place {
         Place::Reading => String::from_str(alloc, "reading"),
-        Place::Preparing(level) => {
-            let name = variable_name(alloc, level)?;
-            format!(in alloc; "preparing {name}")
-        }
-        Place::Branch(level, number) => {
-            let name = variable_name(alloc, level)?;
-            format!(in alloc; "branch {number} of {name}")
-        }
-        Place::Gathering(level) => {
-            let name = variable_name(alloc, level)?;
-            format!(in alloc; "gathering {name}")
-        }
+        Place::Preparing(level) => labelled_variable(alloc, "preparing ", level),
+        Place::Branch(level, number) => print_branch(alloc, level, number),
+        Place::Gathering(level) => labelled_variable(alloc, "gathering ", level),
         Place::Checking => String::from_str(alloc, "checking"),
         Place::Solving => String::from_str(alloc, "solving"),
     }
 }
 
 /// Two elements that should be the same and are not.
+#[tactic(auto, using(crate::proofs::LineSteps::disagree_lines), unfolding(crate::specs::Answers::print_disagreement))]
 fn print_disagreement(alloc: Global, left: &Elem, right: &Elem) -> Result<Text, AllocError>
     ensures { IfOk result (λ text. text ≡ spec.print_disagreement left.now right.now) }
 {
-    let left = element_text(alloc, left)?;
-    let right = element_text(alloc, right)?;
-    let text = format!(in alloc; "disagree\nleft {left}\nright {right}\n")?;
+    let mut text = String::from_str(alloc, "disagree\n")?;
+    push_element_line(alloc, &mut text, "left ", left)?;
+    push_element_line(alloc, &mut text, "right ", right)?;
     Ok(bytes_of(text))
 }

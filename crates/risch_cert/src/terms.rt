@@ -1,7 +1,8 @@
 //! The texts of fractions, powers, terms and quotients.
 
-ghost use Rattle.std.specs.Prelude.{◌≡◌, ◌++◌, string_bytes, IfOk, OnOk};
+ghost use Rattle.std.specs.Prelude.{◌≡◌, ◌++◌, ◌||◌, not, codes, string_bytes, IfOk, OnOk};
 ghost use Rattle.risch_level.specs.Accessors.{as_number};
+ghost use Rattle.risch_cert.specs.Texts as texts;
 ghost use Rattle.risch_cert.specs.Printing as spec;
 
 use crate::texts::{is_digits, is_power};
@@ -63,16 +64,30 @@ fn push_enclosed(text: &mut String, needed: bool, part: &str) -> Result<(), Allo
     }
 }
 
+/// Whether the text is digits alone, or a variable with or without an exponent.
+fn is_bare(text: &[u8]) -> bool
+    ensures { result ≡ (texts.is_digits text.now || texts.is_power text.now) }
+{
+    is_digits(text) || is_power(text)
+}
+
+/// Appends `/` and the denominator with this text.
+fn push_divisor(text: &mut String, bottom: &str) -> Result<(), AllocError>
+    ensures { OnOk result (string_bytes text.new ≡ string_bytes text.old ++ (codes "/" ++ spec.enclosed (not (texts.is_power bottom.now)) bottom.now)) }
+{
+    text.push('/')?;
+    push_enclosed(text, !is_power(bottom.as_bytes()), bottom)
+}
+
 /// The quotient of two polynomials with these texts.
 #[tactic(auto, unfolding(crate::specs::Printing::print_quotient))]
 pub(crate) fn print_quotient(alloc: Global, top: &str, bottom: &str) -> Result<String, AllocError>
     ensures { IfOk result (λ text. string_bytes text ≡ spec.print_quotient top.now bottom.now) }
 {
+    let bare = is_bare(top.as_bytes());
     let mut text = String::new(alloc);
-    let bare = is_digits(top.as_bytes()) || is_power(top.as_bytes());
     push_enclosed(&mut text, !bare, top)?;
-    text.push('/')?;
-    push_enclosed(&mut text, !is_power(bottom.as_bytes()), bottom)?;
+    push_divisor(&mut text, bottom)?;
     Ok(text)
 }
 
@@ -97,6 +112,16 @@ fn is_whole(element: &Elem, whole: i128) -> bool
     }
 }
 
+/// A coefficient, in parentheses where it is long, and `*`.
+fn print_multiplied(alloc: Global, printed: &PrintedElem) -> Result<String, AllocError>
+    ensures { IfOk result (λ text. string_bytes text ≡ spec.enclosed printed.now.long printed.now.text ++ codes "*") }
+{
+    let mut text = String::new(alloc);
+    push_enclosed(&mut text, printed.long, printed.text.as_str())?;
+    text.push('*')?;
+    Ok(text)
+}
+
 /// What stands before a power of the variable: nothing for 1, `-` for -1, else the coefficient, in parentheses where it is long, and `*`.
 #[tactic(auto, unfolding(crate::specs::Printing::print_factor))]
 fn print_factor(
@@ -112,9 +137,21 @@ fn print_factor(
     if is_whole(coefficient, -1) {
         return String::from_str(alloc, "-");
     }
-    let mut text = String::new(alloc);
-    push_enclosed(&mut text, printed.long, printed.text.as_str())?;
-    text.push('*')?;
+    print_multiplied(alloc, printed)
+}
+
+/// The term c·t^e for e above 0.
+fn print_product(
+    alloc: Global,
+    name: &str,
+    coefficient: &Elem,
+    printed: &PrintedElem,
+    exponent: usize,
+) -> Result<String, AllocError>
+    ensures { IfOk result (λ text. string_bytes text ≡ spec.print_factor coefficient.now printed.now ++ spec.print_power name.now exponent) }
+{
+    let mut text = print_factor(alloc, coefficient, printed)?;
+    push_power(&mut text, name, exponent)?;
     Ok(text)
 }
 
@@ -131,9 +168,7 @@ fn print_term(
     if exponent == 0 {
         return Ok(printed.text);
     }
-    let mut text = print_factor(alloc, coefficient, &printed)?;
-    push_power(&mut text, name, exponent)?;
-    Ok(text)
+    print_product(alloc, name, coefficient, &printed, exponent)
 }
 
 /// Whether a text begins with `-`.

@@ -1,8 +1,6 @@
 //! Texts that are digits alone, or a variable with or without an exponent.
 
 ghost use Rattle.std.specs.Prelude.{◌≡◌, string_bytes};
-ghost use Rattle.std.specs.List.{list_all};
-ghost use Rattle.std.specs.Char.{is_ascii_digit};
 ghost use Rattle.risch_cert.specs.Texts as spec;
 
 use risch_io::Text;
@@ -14,19 +12,13 @@ pub(crate) fn bytes_of(text: String) -> Text
     Text::from_vec(text.into_bytes())
 }
 
-/// Whether each byte is a digit.
-fn are_digits(text: &[u8]) -> bool
-    ensures { result ≡ list_all is_ascii_digit text.now }
-{
-    text.iter().all(|byte| byte.is_ascii_digit())
-}
-
 /// Whether the text is one or more digits.
+#[tactic(auto, using(crate::proofs::TextSteps::digits_alone))]
 pub(crate) fn is_digits(text: &[u8]) -> bool
     ensures { result ≡ spec.is_digits text.now }
 {
     match text.split_first() {
-        Some((first, rest)) => first.is_ascii_digit() && are_digits(rest),
+        Some((first, rest)) => first.is_ascii_digit() && after_digits(rest).is_empty(),
         None => false,
     }
 }

@@ -15,4 +15,4 @@ decreases-print_polynomial l = 3 * l.n + 1
 -- The terms of the exponents from this one on are written.
 abbrev pub invariant-print_polynomial-loop-exponent : goal.invariant-print_polynomial-loop-exponent
 invariant-print_polynomial-loop-exponent l =
-    string_bytes l.terms ≡ spec.print_terms (spec.print_below l.n) l.name l.exponent (drop l.exponent l.polynomial)
+    string_bytes l.terms ≡ spec.print_terms (spec.print_below l.n) l.name l.exponent (drop l.exponent l.coefficients)
