@@ -76,9 +76,9 @@ impl Answer {
         ensures { IfOk result (λ copy. copy ≡ self.now) }
     {
         match self {
-            Answer::Integral(integral) => integral.copy(alloc).map(Answer::Integral),
-            Answer::Refuted(chain) => chain.copy(alloc).map(Answer::Refuted),
-            Answer::Stopped(halt) => halt.copy(alloc).map(Answer::Stopped),
+            Answer::Integral(integral) => Ok(Answer::Integral(integral.copy(alloc)?)),
+            Answer::Refuted(chain) => Ok(Answer::Refuted(chain.copy(alloc)?)),
+            Answer::Stopped(halt) => Ok(Answer::Stopped(halt.copy(alloc)?)),
             Answer::Disagree { left, right } => disagree(alloc, left, right),
         }
     }
