@@ -79,18 +79,13 @@ impl Answer {
             Answer::Integral(integral) => Ok(Answer::Integral(integral.copy(alloc)?)),
             Answer::Refuted(chain) => Ok(Answer::Refuted(chain.copy(alloc)?)),
             Answer::Stopped(halt) => Ok(Answer::Stopped(halt.copy(alloc)?)),
-            Answer::Disagree { left, right } => disagree(alloc, left, right),
+            Answer::Disagree { left, right } => {
+                let left = left.copy(alloc)?;
+                let right = right.copy(alloc)?;
+                Ok(Answer::Disagree { left, right })
+            }
         }
     }
-}
-
-/// The answer that these two elements, once more, are not the same.
-fn disagree(alloc: Global, left: &Elem, right: &Elem) -> Result<Answer, AllocError>
-    ensures { IfOk result (λ answer. answer ≡ Answer.Disagree left.now right.now) }
-{
-    let left = left.copy(alloc)?;
-    let right = right.copy(alloc)?;
-    Ok(Answer::Disagree { left, right })
 }
 
 impl Certificate {
