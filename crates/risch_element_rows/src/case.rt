@@ -1,7 +1,6 @@
 // A case of a table: the calls, what they give, and what is expected.
-use crate::halt::Halt;
 use crate::towers::{Towers, push};
-use crate::values::Values;
+use crate::values::{Values, append};
 use crate::{elements, fractions, polynomials, sequences, towers, units};
 use risch_tables::{Case, Fault, Report, first_word};
 use std::alloc::{AllocError, Global};
@@ -17,22 +16,17 @@ pub struct ElementCase {
 
 impl Case for ElementCase {
     fn begin(alloc: Global, name: &str) -> Result<ElementCase, AllocError> {
-        Ok(ElementCase {
-            name: String::from_str(alloc, name)?,
-            towers: Towers::new(alloc),
-            values: Values::new(alloc),
-            expected: String::new(alloc),
-        })
+        match String::from_str(alloc, name) {
+            Ok(name) => Ok(ElementCase::named(alloc, name)),
+            Err(error) => Err(error),
+        }
     }
 
     fn read(&mut self, alloc: Global, key: &str, value: &str) -> Result<(), Fault> {
-        if key == "is" {
-            return self.expect(value);
-        }
-        match self.call(alloc, key, value) {
-            Ok(()) => Ok(()),
-            Err(Halt::Stop(stop)) => Ok(self.values.stop(stop)?),
-            Err(Halt::Fault(fault)) => Err(fault),
+        match key {
+            "is" => self.expect(value),
+            "units" => self.count(value),
+            _ => self.play(alloc, key, value),
         }
     }
 
@@ -40,43 +34,77 @@ impl Case for ElementCase {
         if self.expected.is_empty() {
             return Err(Fault::Cause("a case without a line `is`"));
         }
-        if !self.values.are_written(alloc, self.expected.as_str()) {
-            let got = self.values.text(alloc)?;
-            report.differ(alloc, self.name.as_str(), "values", &self.expected, &got)?;
+        if self.values.are_written(alloc, self.expected.as_str()) {
+            return Ok(());
         }
-        Ok(())
+        match self.differ(alloc, report) {
+            Ok(()) => Ok(()),
+            Err(error) => Err(Fault::Memory(error)),
+        }
     }
 }
 
 impl ElementCase {
-    fn expect(&mut self, words: &str) -> Result<(), Fault> {
-        if !self.expected.is_empty() {
-            self.expected.push_str(" ")?;
+    fn named(alloc: Global, name: String) -> ElementCase {
+        ElementCase {
+            name,
+            towers: Towers::new(alloc),
+            values: Values::new(alloc),
+            expected: String::new(alloc),
         }
-        Ok(self.expected.push_str(words)?)
     }
 
-    fn call(&mut self, alloc: Global, key: &str, value: &str) -> Result<(), Halt> {
-        let (call, operands) = first_word(value);
-        match key {
-            "push" => push(alloc, &mut self.towers.tower, call, operands),
-            "push-other" => push(alloc, &mut self.towers.other, call, operands),
-            "fraction" => fractions::play(alloc, call, operands, &mut self.values),
-            "element" => elements::play(
-                alloc,
-                &self.towers.tower,
-                call,
-                operands,
-                &mut self.values,
-            ),
-            "polynomial" => {
-                polynomials::play(alloc, &self.towers.tower, call, operands, &mut self.values)
-            }
-            "coefficients" => polynomials::of(alloc, value, &mut self.values),
-            "remainders" => sequences::play(alloc, value, &mut self.values),
-            "tower" => towers::play(alloc, &self.towers, call, operands, &mut self.values),
-            "units" => units::play(call, operands, &mut self.values),
-            _ => Err(Halt::cause("no such key")),
+    fn expect(&mut self, words: &str) -> Result<(), Fault> {
+        match append(&mut self.expected, words) {
+            Ok(()) => Ok(()),
+            Err(error) => Err(Fault::Memory(error)),
         }
+    }
+
+    fn count(&mut self, operands: &str) -> Result<(), Fault> {
+        match units::play(operands, &mut self.values) {
+            Ok(()) => self.values.refusal(),
+            Err(error) => Err(Fault::Number(error)),
+        }
+    }
+
+    fn play(&mut self, alloc: Global, key: &str, value: &str) -> Result<(), Fault> {
+        call(alloc, &mut self.towers, key, value, &mut self.values);
+        self.values.refusal()
+    }
+
+    fn differ(&self, alloc: Global, report: &mut Report) -> Result<(), AllocError> {
+        match self.values.text(alloc) {
+            Ok(got) => report.differ(alloc, self.name.as_str(), "values", &self.expected, &got),
+            Err(error) => Err(error),
+        }
+    }
+}
+
+fn call(alloc: Global, towers: &mut Towers, key: &str, value: &str, values: &mut Values) {
+    let (call, operands) = first_word(value);
+    match key {
+        "push" => push(alloc, &mut towers.tower, call, operands, values),
+        "push-other" => push(alloc, &mut towers.other, call, operands, values),
+        "coefficients" => polynomials::of(alloc, value, values),
+        "remainders" => sequences::play(alloc, value, values),
+        _ => call_of(alloc, towers, key, call, operands, values),
+    }
+}
+
+fn call_of(
+    alloc: Global,
+    towers: &Towers,
+    key: &str,
+    call: &str,
+    operands: &str,
+    values: &mut Values,
+) {
+    match key {
+        "fraction" => fractions::play(alloc, call, operands, values),
+        "element" => elements::play(alloc, &towers.tower, call, operands, values),
+        "polynomial" => polynomials::play(alloc, &towers.tower, call, operands, values),
+        "tower" => towers::play(alloc, towers, call, operands, values),
+        _ => values.cause("no such key"),
     }
 }

@@ -1,11 +1,15 @@
 // The conditions of calls that the library has no test for.
 ghost use Rattle.std.specs.Prelude.{◌≡◌, ◌≤◌, ◌<◌, ◌+◌, length, IsTrue, IfOk};
 ghost use Rattle.risch_polynomial.specs.Poly as poly;
-ghost use Rattle.risch_element_theory.specs.WholeTower.{Within};
+ghost use Rattle.risch_element_theory.specs.WholeTower.{Within, AllWithin};
 ghost use Rattle.risch_level.specs.Levels.{element};
 
 use crate::halt::Halt;
+use crate::operands::{level, polynomial_level};
 use risch_elem::{Elem, ElemList, Poly};
+use risch_tower::Tower;
+
+const NOT_IN_LEVEL: &str = "an element that does not lie in the level";
 
 /// Whether a polynomial has a degree of at least 1.
 pub fn is_modulus(polynomial: &Poly) -> bool
@@ -54,14 +58,51 @@ pub fn are_coefficients(coefficients: &ElemList) -> bool
     coefficients.len() <= 256 && weigh(coefficients) <= 65536
 }
 
-/// The level, where an element lies in it.
-pub fn level_of(element: &Elem, level: u8) -> Result<u8, Halt>
-    requires { level < 5 }
-    ensures value { IfOk result (λ it. it ≡ level) }
+/// The level that a number stands for, where an element lies in it.
+pub fn level_of(element: &Elem, at: &Elem) -> Result<u8, Halt>
+    ensures small { IfOk result (λ it. it < 5) }
     ensures within { IfOk result (λ it. Within (it + 1) element.now) }
 {
-    if !element.is_within(level + 1) {
-        return Err(Halt::cause("an element that does not lie in the level"));
+    match level(at.as_num()) {
+        Ok(level) if element.is_within(level + 1) => Ok(level),
+        Ok(_) => Err(Halt::Cause(NOT_IN_LEVEL)),
+        Err(halt) => Err(halt),
     }
-    Ok(level)
+}
+
+/// The level of the tower that a number stands for.
+fn tower_level(tower: &Tower, at: &Elem) -> Result<u8, Halt>
+    ensures small { IfOk result (λ it. it < 5) }
+    ensures there { IfOk result (λ it. it ≤ length tower.now) }
+{
+    match level(at.as_num()) {
+        Ok(level) if level <= tower.height() => Ok(level),
+        Ok(_) => Err(Halt::Cause("no such level")),
+        Err(halt) => Err(halt),
+    }
+}
+
+/// The level of the tower that a number stands for, where an element lies in it.
+pub fn tower_level_of(tower: &Tower, element: &Elem, at: &Elem) -> Result<u8, Halt>
+    ensures there { IfOk result (λ it. it ≤ length tower.now) }
+    ensures within { IfOk result (λ it. Within (it + 1) element.now) }
+{
+    match tower_level(tower, at) {
+        Ok(level) if element.is_within(level + 1) => Ok(level),
+        Ok(_) => Err(Halt::Cause(NOT_IN_LEVEL)),
+        Err(halt) => Err(halt),
+    }
+}
+
+/// The level of the tower that a polynomial stands for, where the coefficients of another one lie below it.
+pub fn level_above(tower: &Tower, coefficients: &Poly, at: &Poly) -> Result<u8, Halt>
+    ensures there { IfOk result (λ it. it ≤ length tower.now) }
+    ensures within { IfOk result (λ it. AllWithin it coefficients.now) }
+{
+    match polynomial_level(at) {
+        Ok(level) if level > tower.height() => Err(Halt::Cause("no such level")),
+        Ok(level) if coefficients.is_within(level) => Ok(level),
+        Ok(_) => Err(Halt::Cause("a coefficient that does not lie below the level")),
+        Err(halt) => Err(halt),
+    }
 }

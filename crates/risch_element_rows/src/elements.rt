@@ -1,7 +1,6 @@
 // The calls of elements.
 use crate::conditions::level_of;
-use crate::halt::Halt;
-use crate::operands::{elements, level};
+use crate::operands::{NO_CALL, elements, level};
 use crate::reductions;
 use crate::values::Values;
 use risch_elem::Elem;
@@ -9,89 +8,110 @@ use risch_tower::Tower;
 use std::alloc::Global;
 
 /// Plays a call over a tower.
-pub fn play(
-    alloc: Global,
-    tower: &Tower,
-    call: &str,
-    operands: &str,
-    values: &mut Values,
-) -> Result<(), Halt> {
-    let operands = elements(alloc, operands)?;
-    match operands.as_slice() {
+pub fn play(alloc: Global, tower: &Tower, call: &str, operands: &str, values: &mut Values) {
+    match elements(alloc, operands) {
+        Ok(operands) => of(alloc, tower, call, operands.as_slice(), values),
+        Err(halt) => values.refuse(halt),
+    }
+}
+
+fn of(alloc: Global, tower: &Tower, call: &str, operands: &[Elem], values: &mut Values) {
+    match operands {
         [a] => of_one(alloc, tower, call, a, values),
         [a, b] => of_two(alloc, tower, call, a, b, values),
-        [a, at, most] => reductions::of_normal_part(alloc, tower, call, (a, at, most), values),
-        _ => Err(Halt::cause("no such call")),
+        [a, at, most] => reductions::of_normal_part(alloc, tower, call, a, at, most, values),
+        _ => values.cause(NO_CALL),
     }
 }
 
-fn of_one(
-    alloc: Global,
-    tower: &Tower,
-    call: &str,
-    a: &Elem,
-    values: &mut Values,
-) -> Result<(), Halt> {
+fn of_one(alloc: Global, tower: &Tower, call: &str, a: &Elem, values: &mut Values) {
     match call {
         "variable" => variable(alloc, a, values),
-        "as_num" => values.number(a.as_num()),
-        "level" => values.whole(a.level().map(u64::from)),
-        "weight" => values.whole(Some(u64::from(a.weight()))),
-        "is_zero" => values.answer(a.is_zero()),
-        "copy" => values.element(a.copy(alloc)?),
-        "neg" => values.element(a.neg(alloc)?),
+        "copy" => values.copied(a.copy(alloc)),
+        "neg" => values.copied(a.neg(alloc)),
         "derive" => derive(alloc, tower, a, values),
-        _ => Err(Halt::cause("no such call")),
+        _ => about(call, a, values),
     }
 }
 
-fn of_two(
-    alloc: Global,
-    tower: &Tower,
-    call: &str,
-    a: &Elem,
-    b: &Elem,
-    values: &mut Values,
-) -> Result<(), Halt> {
+fn about(call: &str, a: &Elem, values: &mut Values) {
+    match call {
+        "as_num" => as_num(a, values),
+        "level" => level_or_none(a, values),
+        "weight" => values.whole(u64::from(a.weight())),
+        "is_zero" => values.answer(a.is_zero()),
+        _ => values.cause(NO_CALL),
+    }
+}
+
+fn as_num(a: &Elem, values: &mut Values) {
+    match a.as_num() {
+        Some(number) => values.number(number),
+        None => values.name("none"),
+    }
+}
+
+fn level_or_none(a: &Elem, values: &mut Values) {
+    match a.level() {
+        Some(level) => values.whole(u64::from(level)),
+        None => values.name("none"),
+    }
+}
+
+fn of_two(alloc: Global, tower: &Tower, call: &str, a: &Elem, b: &Elem, values: &mut Values) {
     match call {
         "same" => values.answer(a.same(b)),
-        "add" => values.element(a.add(alloc, b)?),
-        "mul" => values.element(a.mul(alloc, b)?),
+        "add" => values.formed(a.add(alloc, b)),
+        "mul" => values.formed(a.mul(alloc, b)),
         "div" => div(alloc, a, b, values),
-        "num_poly" => num_poly(alloc, a, b, values),
-        "den_poly" => den_poly(alloc, a, b, values),
-        "canonical" => reductions::canonical_parts(alloc, tower, a, b, values),
-        "order_at" => reductions::order(alloc, a, b, values),
-        "value_at" => reductions::value(alloc, a, b, values),
-        _ => Err(Halt::cause("no such call")),
+        _ => of_level(alloc, tower, call, a, b, values),
     }
 }
 
-fn variable(alloc: Global, at: &Elem, values: &mut Values) -> Result<(), Halt> {
-    let level = level(at.as_num())?;
-    values.element(Elem::variable(alloc, level)?)
+fn of_level(alloc: Global, tower: &Tower, call: &str, a: &Elem, at: &Elem, values: &mut Values) {
+    match call {
+        "num_poly" => num_poly(alloc, a, at, values),
+        "den_poly" => den_poly(alloc, a, at, values),
+        "canonical" => reductions::canonical_parts(alloc, tower, a, at, values),
+        "order_at" => reductions::order(alloc, a, at, values),
+        "value_at" => reductions::value(alloc, a, at, values),
+        _ => values.cause(NO_CALL),
+    }
 }
 
-fn div(alloc: Global, a: &Elem, b: &Elem, values: &mut Values) -> Result<(), Halt> {
+fn variable(alloc: Global, at: &Elem, values: &mut Values) {
+    match level(at.as_num()) {
+        Ok(level) => values.copied(Elem::variable(alloc, level)),
+        Err(halt) => values.refuse(halt),
+    }
+}
+
+fn div(alloc: Global, a: &Elem, b: &Elem, values: &mut Values) {
     if b.is_zero() {
-        return Err(Halt::cause("a division by 0"));
+        values.cause("a division by 0")
+    } else {
+        values.formed(a.div(alloc, b))
     }
-    values.element(a.div(alloc, b)?)
 }
 
-fn num_poly(alloc: Global, a: &Elem, at: &Elem, values: &mut Values) -> Result<(), Halt> {
-    let level = level_of(a, level(at.as_num())?)?;
-    values.polynomial(a.num_poly(alloc, level)?)
-}
-
-fn den_poly(alloc: Global, a: &Elem, at: &Elem, values: &mut Values) -> Result<(), Halt> {
-    let level = level_of(a, level(at.as_num())?)?;
-    values.polynomial(a.den_poly(alloc, level)?)
-}
-
-fn derive(alloc: Global, tower: &Tower, a: &Elem, values: &mut Values) -> Result<(), Halt> {
-    if !a.is_within(tower.height() + 1) {
-        return Err(Halt::cause("an element that does not lie in the tower"));
+fn num_poly(alloc: Global, a: &Elem, at: &Elem, values: &mut Values) {
+    match level_of(a, at) {
+        Ok(level) => values.copied_polynomial(a.num_poly(alloc, level)),
+        Err(halt) => values.refuse(halt),
     }
-    values.element(tower.derive(alloc, a)?)
+}
+
+fn den_poly(alloc: Global, a: &Elem, at: &Elem, values: &mut Values) {
+    match level_of(a, at) {
+        Ok(level) => values.copied_polynomial(a.den_poly(alloc, level)),
+        Err(halt) => values.refuse(halt),
+    }
+}
+
+fn derive(alloc: Global, tower: &Tower, a: &Elem, values: &mut Values) {
+    if a.is_within(tower.height() + 1) {
+        values.formed(tower.derive(alloc, a))
+    } else {
+        values.cause("an element that does not lie in the tower")
+    }
 }

@@ -1,36 +1,60 @@
 // The calls of fractions.
-use crate::halt::Halt;
-use crate::operands::elements;
+use crate::halt::name_of;
+use crate::operands::{NO_CALL, elements};
 use crate::values::Values;
+use risch_elem::Elem;
 use risch_frac::{Frac, Op};
 use std::alloc::Global;
 
+const NO_NUMBER: &str = "a number was expected";
+
 /// Plays a call.
-pub fn play(alloc: Global, call: &str, operands: &str, values: &mut Values) -> Result<(), Halt> {
-    let operands = elements(alloc, operands)?;
-    match operands.as_slice() {
-        [a] => match a.as_num() {
-            Some(a) => of_one(call, a, values),
-            None => Err(Halt::cause("a number was expected")),
-        },
-        [a, b] => match (a.as_num(), b.as_num()) {
-            (Some(a), Some(b)) => of_two(call, a, b, values),
-            _ => Err(Halt::cause("a number was expected")),
-        },
-        _ => Err(Halt::cause("no such call")),
+pub fn play(alloc: Global, call: &str, operands: &str, values: &mut Values) {
+    match elements(alloc, operands) {
+        Ok(operands) => of(call, operands.as_slice(), values),
+        Err(halt) => values.refuse(halt),
     }
 }
 
-fn of_one(call: &str, a: Frac, values: &mut Values) -> Result<(), Halt> {
+fn of(call: &str, operands: &[Elem], values: &mut Values) {
+    match operands {
+        [a] => of_one(call, a.as_num(), values),
+        [a, b] => of_two(call, a.as_num(), b.as_num(), values),
+        _ => values.cause(NO_CALL),
+    }
+}
+
+fn of_one(call: &str, a: Option<Frac>, values: &mut Values) {
+    match a {
+        Some(a) => of_number(call, a, values),
+        None => values.cause(NO_NUMBER),
+    }
+}
+
+fn of_two(call: &str, a: Option<Frac>, b: Option<Frac>, values: &mut Values) {
+    match a {
+        Some(a) => of_second(call, a, b, values),
+        None => values.cause(NO_NUMBER),
+    }
+}
+
+fn of_second(call: &str, a: Frac, b: Option<Frac>, values: &mut Values) {
+    match b {
+        Some(b) => of_numbers(call, a, b, values),
+        None => values.cause(NO_NUMBER),
+    }
+}
+
+fn of_number(call: &str, a: Frac, values: &mut Values) {
     match call {
-        "neg" => values.number(Some(a.neg())),
+        "neg" => values.number(a.neg()),
         "is_zero" => values.answer(a.is_zero()),
         "is_one" => values.answer(a.is_one()),
-        _ => Err(Halt::cause("no such call")),
+        _ => values.cause(NO_CALL),
     }
 }
 
-fn of_two(call: &str, a: Frac, b: Frac, values: &mut Values) -> Result<(), Halt> {
+fn of_numbers(call: &str, a: Frac, b: Frac, values: &mut Values) {
     match call {
         "new" => new(a, b, values),
         "add" => put(a.add(b), values),
@@ -38,27 +62,29 @@ fn of_two(call: &str, a: Frac, b: Frac, values: &mut Values) -> Result<(), Halt>
         "mul" => put(a.mul(b), values),
         "div" => div(a, b, values),
         "same" => values.answer(a.same(b)),
-        _ => Err(Halt::cause("no such call")),
+        _ => values.cause(NO_CALL),
     }
 }
 
-fn put(number: Result<Frac, Op>, values: &mut Values) -> Result<(), Halt> {
+fn put(number: Result<Frac, Op>, values: &mut Values) {
     match number {
-        Ok(number) => values.number(Some(number)),
-        Err(op) => Err(Halt::from(op)),
+        Ok(number) => values.number(number),
+        Err(op) => values.name(name_of(op)),
     }
 }
 
-fn new(num: Frac, den: Frac, values: &mut Values) -> Result<(), Halt> {
+fn new(num: Frac, den: Frac, values: &mut Values) {
     if num.den() != 1 || den.den() != 1 || den.is_zero() {
-        return Err(Halt::cause("no whole numbers, or the denominator 0"));
+        values.cause("no whole numbers, or the denominator 0")
+    } else {
+        values.number(Frac::new(num.num(), den.num()))
     }
-    values.number(Some(Frac::new(num.num(), den.num())))
 }
 
-fn div(a: Frac, b: Frac, values: &mut Values) -> Result<(), Halt> {
+fn div(a: Frac, b: Frac, values: &mut Values) {
     if b.is_zero() {
-        return Err(Halt::cause("a division by 0"));
+        values.cause("a division by 0")
+    } else {
+        put(a.div(b), values)
     }
-    put(a.div(b), values)
 }

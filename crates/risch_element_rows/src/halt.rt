@@ -1,22 +1,24 @@
-// Why a call gives no value.
-use risch_field::Fail;
+// Why a line is refused, and the names of stops.
 use risch_frac::Op;
 use risch_tables::Fault;
-use risch_tower::PushFault;
-use std::alloc::{AllocError, AllocFailed};
+use std::alloc::AllocError;
 
-/// Why a call gives no value: it stops, or its line is badly written.
-#[derive(Drop)]
+/// Why a line is refused.
+#[derive(Clone, Copy)]
 pub enum Halt {
-    /// The stop or the refusal of this name.
-    Stop(&'static str),
-    Fault(Fault),
+    /// It is badly written, by this cause.
+    Cause(&'static str),
+    /// No memory is left.
+    Memory,
 }
 
 impl Halt {
-    /// A line that is badly written.
-    pub fn cause(text: &'static str) -> Halt {
-        Halt::Fault(Fault::Cause(text))
+    /// The fault that a table tells.
+    pub fn fault(self) -> Fault {
+        match self {
+            Halt::Cause(text) => Fault::Cause(text),
+            Halt::Memory => Fault::Memory(AllocError),
+        }
     }
 }
 
@@ -26,52 +28,5 @@ pub fn name_of(op: Op) -> &'static str {
         Op::Add => "overflow-add",
         Op::Mul => "overflow-mul",
         Op::Div => "overflow-div",
-    }
-}
-
-impl From<Fault> for Halt {
-    fn from(fault: Fault) -> Halt {
-        Halt::Fault(fault)
-    }
-}
-
-impl From<Op> for Halt {
-    fn from(op: Op) -> Halt {
-        Halt::Stop(name_of(op))
-    }
-}
-
-impl From<Fail> for Halt {
-    fn from(fail: Fail) -> Halt {
-        match fail {
-            Fail::Overflow(op) => Halt::from(op),
-            Fail::Size => Halt::Stop("size"),
-            Fail::Memory => Halt::from(AllocError),
-        }
-    }
-}
-
-impl From<PushFault> for Halt {
-    fn from(fault: PushFault) -> Halt {
-        match fault {
-            PushFault::TooHigh => Halt::Stop("too-high"),
-            PushFault::ZeroArgument => Halt::Stop("zero-argument"),
-            PushFault::ConstantArgument => Halt::Stop("constant-argument"),
-            PushFault::Overflow(op) => Halt::from(op),
-            PushFault::Size => Halt::Stop("size"),
-            PushFault::Memory => Halt::from(AllocError),
-        }
-    }
-}
-
-impl From<AllocError> for Halt {
-    fn from(error: AllocError) -> Halt {
-        Halt::Fault(Fault::Memory(error))
-    }
-}
-
-impl<T: Drop> From<AllocFailed<T>> for Halt {
-    fn from(_failed: AllocFailed<T>) -> Halt {
-        Halt::from(AllocError)
     }
 }

@@ -2,106 +2,201 @@
 ghost use Rattle.std.specs.Prelude.{◌<◌, IfOk};
 
 use crate::halt::Halt;
-use risch_elem::{Elem, Poly};
+use risch_elem::{Elem, ElemList, Poly, PolyList};
 use risch_expression::{Names, Program, Words, evaluate, evaluate_element, read_sum};
 use risch_frac::Frac;
-use std::alloc::Global;
+use std::alloc::{AllocError, Global};
+
+/// The cause of a call that there is not, or not of so many operands.
+pub const NO_CALL: &str = "no such call";
 
 const NO_EXPRESSION: &str = "a word that is no expression";
 
 const NO_VALUE: &str = "an expression that has no value";
 
-// The steps of an expression in x and t1 to t4, and in z where it may stand.
-fn program(alloc: Global, word: &str, with_z: bool) -> Result<Program, Halt> {
+const NO_LEVEL: &str = "no such level";
+
+const NO_EXPONENT: &str = "no such exponent";
+
+// Whether a word is an expression in x and t1 to t4, and in z where it may stand; its steps are appended.
+fn is_read(word: &str, with_z: bool, program: &mut Program) -> bool {
     let bytes = word.as_bytes();
     if bytes.len() >= 1 << 32 {
-        return Err(Halt::cause(NO_EXPRESSION));
+        return false;
     }
     let names = Names {
         monomials: 4,
         with_z,
     };
     let mut words = Words::start(bytes);
-    let mut program = Program::new(alloc);
-    let read = read_sum(&mut words, &mut program, names);
-    if read.is_err() || words.left() > 0 {
-        return Err(Halt::cause(NO_EXPRESSION));
+    match read_sum(&mut words, program, names) {
+        Ok(()) => words.left() == 0,
+        Err(_) => false,
     }
-    Ok(program)
 }
 
 /// The element that a word stands for.
 pub fn element(alloc: Global, word: &str) -> Result<Elem, Halt> {
-    let program = program(alloc, word, false)?;
+    let mut program = Program::new(alloc);
+    if !is_read(word, false, &mut program) {
+        return Err(Halt::Cause(NO_EXPRESSION));
+    }
     match evaluate_element(alloc, program.as_slice()) {
         Ok(element) => Ok(element),
-        Err(_) => Err(Halt::cause(NO_VALUE)),
+        Err(_) => Err(Halt::Cause(NO_VALUE)),
     }
 }
 
 /// The polynomial in z that a word stands for.
 pub fn polynomial(alloc: Global, word: &str) -> Result<Poly, Halt> {
-    let program = program(alloc, word, true)?;
+    let mut program = Program::new(alloc);
+    if !is_read(word, true, &mut program) {
+        return Err(Halt::Cause(NO_EXPRESSION));
+    }
     match evaluate(alloc, program.as_slice()) {
         Ok(polynomial) => Ok(polynomial),
-        Err(_) => Err(Halt::cause(NO_VALUE)),
+        Err(_) => Err(Halt::Cause(NO_VALUE)),
+    }
+}
+
+// The end of a step that wants memory.
+fn held(step: Result<(), AllocError>) -> Result<(), Halt> {
+    match step {
+        Ok(()) => Ok(()),
+        Err(_) => Err(Halt::Memory),
+    }
+}
+
+// Appends the element that a word stands for.
+fn push_element(alloc: Global, elements: &mut ElemList, word: &str) -> Result<(), Halt> {
+    match element(alloc, word) {
+        Ok(element) => held(elements.push(element)),
+        Err(halt) => Err(halt),
     }
 }
 
 /// The elements that words stand for.
-pub fn elements(alloc: Global, words: &str) -> Result<Vec<Elem>, Halt> {
-    let mut elements = Vec::new(alloc);
+pub fn elements(alloc: Global, words: &str) -> Result<ElemList, Halt> {
+    let mut elements = ElemList::new(alloc);
     for word in words.split_whitespace() {
-        elements.push(element(alloc, word)?)?;
+        match push_element(alloc, &mut elements, word) {
+            Ok(()) => {}
+            Err(halt) => return Err(halt),
+        }
     }
     Ok(elements)
 }
 
+// Appends the polynomial that a word stands for.
+fn push_polynomial(alloc: Global, polynomials: &mut PolyList, word: &str) -> Result<(), Halt> {
+    match polynomial(alloc, word) {
+        Ok(polynomial) => held(polynomials.push(polynomial)),
+        Err(halt) => Err(halt),
+    }
+}
+
 /// The polynomials that words stand for.
-pub fn polynomials(alloc: Global, words: &str) -> Result<Vec<Poly>, Halt> {
-    let mut polynomials = Vec::new(alloc);
+pub fn polynomials(alloc: Global, words: &str) -> Result<PolyList, Halt> {
+    let mut polynomials = PolyList::new(alloc);
     for word in words.split_whitespace() {
-        polynomials.push(polynomial(alloc, word)?)?;
+        match push_polynomial(alloc, &mut polynomials, word) {
+            Ok(()) => {}
+            Err(halt) => return Err(halt),
+        }
     }
     Ok(polynomials)
+}
+
+// The whole number that a number is.
+fn whole(number: Option<Frac>) -> Option<i128> {
+    match number {
+        Some(number) if number.den() == 1 => Some(number.num()),
+        _ => None,
+    }
 }
 
 /// The level that a number stands for, from 0 to 4.
 pub fn level(number: Option<Frac>) -> Result<u8, Halt>
     ensures { IfOk result (λ level. level < 5) }
 {
-    match number {
-        Some(number) if number.den() == 1 => match number.num() {
-            0 => Ok(0),
-            1 => Ok(1),
-            2 => Ok(2),
-            3 => Ok(3),
-            4 => Ok(4),
-            _ => Err(Halt::cause("no such level")),
-        },
-        _ => Err(Halt::cause("no such level")),
+    match whole(number) {
+        Some(0) => Ok(0),
+        Some(1) => Ok(1),
+        Some(2) => Ok(2),
+        Some(3) => Ok(3),
+        Some(4) => Ok(4),
+        _ => Err(Halt::Cause(NO_LEVEL)),
     }
 }
 
 /// The exponent that a number stands for.
 pub fn exponent(number: Option<Frac>) -> Result<u16, Halt> {
-    match number {
-        Some(number) if number.den() == 1 => match u16::try_from(number.num()) {
-            Ok(exponent) => Ok(exponent),
-            Err(_) => Err(Halt::cause("no such exponent")),
-        },
-        _ => Err(Halt::cause("no such exponent")),
+    match whole(number) {
+        Some(number) => narrowed(number),
+        None => Err(Halt::Cause(NO_EXPONENT)),
+    }
+}
+
+fn narrowed(number: i128) -> Result<u16, Halt> {
+    match u16::try_from(number) {
+        Ok(exponent) => Ok(exponent),
+        Err(_) => Err(Halt::Cause(NO_EXPONENT)),
+    }
+}
+
+// Whether the degree is at most 0.
+fn is_constant(polynomial: &Poly) -> bool {
+    match polynomial.degree() {
+        Some(degree) => degree == 0,
+        None => true,
+    }
+}
+
+// The number that a polynomial of degree at most 0 is.
+fn number_of(polynomial: &Poly) -> Option<Frac> {
+    match polynomial.coefficient(0) {
+        Some(constant) => constant.as_num(),
+        None => Some(Frac::new(0, 1)),
+    }
+}
+
+const NO_ELEMENT: &str = "an element was expected";
+
+/// The level that a polynomial stands for, from 0 to 4.
+pub fn polynomial_level(polynomial: &Poly) -> Result<u8, Halt>
+    ensures { IfOk result (λ level. level < 5) }
+{
+    if is_constant(polynomial) {
+        level(number_of(polynomial))
+    } else {
+        Err(Halt::Cause(NO_ELEMENT))
+    }
+}
+
+/// The exponent that a polynomial stands for.
+pub fn exponent_of(polynomial: &Poly) -> Result<u16, Halt> {
+    if is_constant(polynomial) {
+        exponent(number_of(polynomial))
+    } else {
+        Err(Halt::Cause(NO_ELEMENT))
+    }
+}
+
+// The coefficient at exponent 0.
+fn constant_term(alloc: Global, polynomial: &Poly) -> Result<Elem, AllocError> {
+    match polynomial.coefficient(0) {
+        Some(constant) => constant.copy(alloc),
+        None => Ok(Elem::num(Frac::new(0, 1))),
     }
 }
 
 /// The element that a polynomial of degree at most 0 is.
 pub fn constant(alloc: Global, polynomial: &Poly) -> Result<Elem, Halt> {
-    match polynomial.degree() {
-        Some(1..) => return Err(Halt::cause("an element was expected")),
-        _ => {}
+    if !is_constant(polynomial) {
+        return Err(Halt::Cause(NO_ELEMENT));
     }
-    match polynomial.coefficient(0) {
-        Some(constant) => Ok(constant.copy(alloc)?),
-        None => Ok(Elem::num(Frac::new(0, 1))),
+    match constant_term(alloc, polynomial) {
+        Ok(constant) => Ok(constant),
+        Err(_) => Err(Halt::Memory),
     }
 }

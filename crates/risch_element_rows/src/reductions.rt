@@ -9,140 +9,132 @@ ghost use Rattle.risch_monomial.specs.LevelDerivation.{level_derivation};
 ghost use Rattle.risch_monomial.specs.LevelElements.{numerator_at, denominator_at};
 ghost use Rattle.risch_monomial.specs.NormalPolynomials.{HasNormalDivisors};
 
-use crate::conditions::{is_below, is_modulus, level_of};
-use crate::halt::{Halt, name_of};
-use crate::operands::{constant, exponent, level};
+use crate::conditions::{is_below, is_modulus, level_above, level_of, tower_level_of};
+use crate::operands::{NO_CALL, exponent, exponent_of, level};
 use crate::values::Values;
-use risch_elem::{Counter, Elem, ElemList, Poly, Run, Stop};
+use risch_elem::{Counter, Elem, ElemList, Fail, Poly, Run};
 use risch_hermite::hermite;
 use risch_residue::residues;
 use risch_split::{canonical, order_at, split, value_at};
 use risch_sub::{characteristic, square_free};
 use risch_tower::Tower;
-use std::alloc::{AllocError, Global};
+use std::alloc::Global;
 
-// The level of the tower that a number stands for.
-fn tower_level(tower: &Tower, at: &Elem) -> Result<u8, Halt>
-    ensures there { IfOk result (λ it. it ≤ length tower.now) }
-    ensures small { IfOk result (λ it. it < 5) }
-{
-    let level = level(at.as_num())?;
-    if level > tower.height() {
-        return Err(Halt::cause("no such level"));
-    }
-    Ok(level)
-}
+const ZERO: &str = "the polynomial 0";
 
 // The monic multiple of a polynomial other than 0.
-fn monic(alloc: Global, a: &Poly) -> Result<Poly, Halt>
+fn monic(alloc: Global, a: &Poly) -> Result<Poly, Fail>
+    requires { 0 < length a.now }
     ensures monic { IfOk result (λ it. IsMonic elements (polynomial it)) }
     ensures within { (n : ℕ) → AllWithin n a.now → IfOk result (λ it. AllWithin n it) }
 {
-    if a.is_zero() {
-        return Err(Halt::cause("the polynomial 0"));
-    }
-    let zero = Poly::of(ElemList::new(alloc))?;
-    Ok(a.gcd(alloc, &zero)?)
-}
-
-// The stop of a call.
-fn stopped(stop: Stop, values: &mut Values) -> Result<(), Halt> {
-    match stop {
-        Stop::Overflow(op) => values.name(name_of(op)),
-        Stop::Size => values.name("size"),
-        Stop::Case(_) => values.name("case"),
-        Stop::NotSound(constant) => {
-            values.name("not-sound")?;
-            values.element(constant)
-        }
-        Stop::Budget => values.name("budget"),
-    }
-}
-
-// What a call answers besides its value and its stop.
-fn neither<T: Drop>(run: Run<T>, values: &mut Values) -> Result<(), Halt> {
-    match run {
-        Run::Stopped(stop) => stopped(stop, values),
-        Run::Memory => Err(Halt::from(AllocError)),
-        _ => Err(Halt::cause("a run that was left")),
+    match Poly::of(ElemList::new(alloc)) {
+        Ok(zero) => a.gcd(alloc, &zero),
+        Err(_) => Err(Fail::Memory),
     }
 }
 
 /// The square-free parts of the monic multiple of a polynomial.
-pub fn parts(alloc: Global, a: &Poly, values: &mut Values) -> Result<(), Halt> {
-    let monic = monic(alloc, a)?;
-    for part in square_free(alloc, &monic)?.as_slice() {
-        values.polynomial(part.copy(alloc)?)?;
+pub fn parts(alloc: Global, a: &Poly, values: &mut Values) {
+    if a.is_zero() {
+        return values.cause(ZERO);
     }
-    values.name("end")
+    match monic(alloc, a) {
+        Ok(monic) => values.formed_polynomials(alloc, square_free(alloc, &monic)),
+        Err(fail) => values.fail(fail),
+    }
 }
 
 /// The traces of the powers of u modulo the monic multiple of d.
-pub fn traces(
-    alloc: Global,
-    d: &Poly,
-    u: &Poly,
-    power: &Poly,
-    values: &mut Values,
-) -> Result<(), Halt> {
-    let power = exponent(constant(alloc, power)?.as_num())?;
-    let modulus = monic(alloc, d)?;
-    if !is_modulus(&modulus) || !is_below(u, &modulus) {
-        return Err(Halt::cause("degrees that do not fit"));
+pub fn traces(alloc: Global, d: &Poly, u: &Poly, power: &Poly, values: &mut Values) {
+    match exponent_of(power) {
+        Ok(power) => traces_modulo(alloc, d, u, power, values),
+        Err(halt) => values.refuse(halt),
     }
-    for trace in characteristic(alloc, &modulus, u, power)?.as_slice() {
-        values.element(trace.copy(alloc)?)?;
+}
+
+fn traces_modulo(alloc: Global, d: &Poly, u: &Poly, power: u16, values: &mut Values) {
+    if d.is_zero() {
+        return values.cause(ZERO);
     }
-    Ok(())
+    match monic(alloc, d) {
+        Ok(modulus) => traces_of(alloc, &modulus, u, power, values),
+        Err(fail) => values.fail(fail),
+    }
+}
+
+fn traces_of(alloc: Global, modulus: &Poly, u: &Poly, power: u16, values: &mut Values)
+    requires { IsMonic elements (polynomial modulus.now) }
+{
+    if is_modulus(modulus) && is_below(u, modulus) {
+        values.formed_elements(alloc, characteristic(alloc, modulus, u, power))
+    } else {
+        values.cause("degrees that do not fit")
+    }
 }
 
 /// The normal and the special part of the monic multiple of a polynomial.
-pub fn splitting(
-    alloc: Global,
-    tower: &Tower,
-    a: &Poly,
-    at: &Poly,
-    values: &mut Values,
-) -> Result<(), Halt> {
-    let level = tower_level(tower, &constant(alloc, at)?)?;
-    if !a.is_within(level) {
-        return Err(Halt::cause("a coefficient that does not lie below the level"));
+pub fn splitting(alloc: Global, tower: &Tower, a: &Poly, at: &Poly, values: &mut Values) {
+    match level_above(tower, a, at) {
+        Ok(level) => splitting_at(alloc, tower, level, a, values),
+        Err(halt) => values.refuse(halt),
     }
-    let monic = monic(alloc, a)?;
-    match split(alloc, tower, level, &monic) {
-        Run::Done(split) => values.split(alloc, &split),
-        other => neither(other, values),
+}
+
+fn splitting_at(alloc: Global, tower: &Tower, level: u8, a: &Poly, values: &mut Values)
+    requires level { level ≤ length tower.now }
+    requires within { AllWithin level a.now }
+{
+    if a.is_zero() {
+        return values.cause(ZERO);
+    }
+    match monic(alloc, a) {
+        Ok(monic) => values.split(alloc, split(alloc, tower, level, &monic)),
+        Err(fail) => values.fail(fail),
     }
 }
 
 /// The reduced and the normal part of an element.
-pub fn canonical_parts(
-    alloc: Global,
-    tower: &Tower,
-    a: &Elem,
-    at: &Elem,
-    values: &mut Values,
-) -> Result<(), Halt> {
-    let level = level_of(a, tower_level(tower, at)?)?;
-    match canonical(alloc, tower, level, a) {
-        Run::Done(parts) => values.canonical(alloc, &parts),
-        other => neither(other, values),
+pub fn canonical_parts(alloc: Global, tower: &Tower, a: &Elem, at: &Elem, values: &mut Values) {
+    match tower_level_of(tower, a, at) {
+        Ok(level) => values.canonical(alloc, canonical(alloc, tower, level, a)),
+        Err(halt) => values.refuse(halt),
     }
 }
 
 /// The order of an element at the variable of a level.
-pub fn order(alloc: Global, a: &Elem, at: &Elem, values: &mut Values) -> Result<(), Halt> {
-    let level = level(at.as_num())?;
-    values.integer(order_at(alloc, level, a)?)
+pub fn order(alloc: Global, a: &Elem, at: &Elem, values: &mut Values) {
+    match level(at.as_num()) {
+        Ok(level) => order_of(alloc, a, level, values),
+        Err(halt) => values.refuse(halt),
+    }
+}
+
+fn order_of(alloc: Global, a: &Elem, level: u8, values: &mut Values)
+    requires { level < 5 }
+{
+    match order_at(alloc, level, a) {
+        Ok(order) => values.integer(order),
+        Err(_) => values.memory(),
+    }
 }
 
 /// The value of an element of order 0.
-pub fn value(alloc: Global, a: &Elem, at: &Elem, values: &mut Values) -> Result<(), Halt> {
-    let level = level(at.as_num())?;
-    if order_at(alloc, level, a)? != 0 {
-        return Err(Halt::cause("an element of another order than 0"));
+pub fn value(alloc: Global, a: &Elem, at: &Elem, values: &mut Values) {
+    match level(at.as_num()) {
+        Ok(level) => value_of(alloc, a, level, values),
+        Err(halt) => values.refuse(halt),
     }
-    values.element(value_at(alloc, level, a)?)
+}
+
+fn value_of(alloc: Global, a: &Elem, level: u8, values: &mut Values)
+    requires { level < 5 }
+{
+    match order_at(alloc, level, a) {
+        Ok(0) => values.formed(value_at(alloc, level, a)),
+        Ok(_) => values.cause("an element of another order than 0"),
+        Err(_) => values.memory(),
+    }
 }
 
 /// The Hermite reduction of the normal part of an element, or the residues of its simple part, with at most so many units, and how many there are at the end.
@@ -150,40 +142,80 @@ pub fn of_normal_part(
     alloc: Global,
     tower: &Tower,
     call: &str,
-    operands: (&Elem, &Elem, &Elem),
+    a: &Elem,
+    at: &Elem,
+    most: &Elem,
     values: &mut Values,
-) -> Result<(), Halt> {
-    let (a, at, most) = operands;
-    let most = exponent(most.as_num())?;
-    let level = level_of(a, tower_level(tower, at)?)?;
-    match canonical(alloc, tower, level, a) {
-        Run::Done(parts) => match call {
-            "hermite" => reduction(alloc, tower, level, &parts.normal, most, values),
-            "residues" => residues_of(alloc, tower, level, &parts.normal, most, values),
-            _ => Err(Halt::cause("no such call")),
-        },
-        other => neither(other, values),
+) {
+    match exponent(most.as_num()) {
+        Ok(most) => of_level(alloc, tower, call, a, at, u64::from(most), values),
+        Err(halt) => values.refuse(halt),
     }
 }
 
-fn reduction(
+fn of_level(
     alloc: Global,
     tower: &Tower,
+    call: &str,
+    a: &Elem,
+    at: &Elem,
+    most: u64,
+    values: &mut Values,
+) {
+    match tower_level_of(tower, a, at) {
+        Ok(level) => of_element(alloc, tower, call, level, a, most, values),
+        Err(halt) => values.refuse(halt),
+    }
+}
+
+fn of_element(
+    alloc: Global,
+    tower: &Tower,
+    call: &str,
+    level: u8,
+    a: &Elem,
+    most: u64,
+    values: &mut Values,
+)
+    requires level { level ≤ length tower.now }
+    requires within { Within (level + 1) a.now }
+{
+    match canonical(alloc, tower, level, a) {
+        Run::Done(parts) => of_normal(alloc, tower, call, level, &parts.normal, most, values),
+        Run::Stopped(stop) => values.stop(stop),
+        Run::Left => values.left(),
+        Run::Memory => values.memory(),
+    }
+}
+
+fn of_normal(
+    alloc: Global,
+    tower: &Tower,
+    call: &str,
     level: u8,
     normal: &Elem,
-    most: u16,
+    most: u64,
     values: &mut Values,
-) -> Result<(), Halt>
+)
     requires level { level ≤ length tower.now }
     requires within { Within (level + 1) normal.now }
     requires normal { HasNormalDivisors (level_derivation (monomials tower.now) level) (polynomial (denominator_at level normal.now)) }
 {
-    let mut counter = Counter::new(u64::from(most));
-    match hermite(alloc, tower, level, normal, &mut counter) {
-        Run::Done(reduction) => values.reduction(alloc, &reduction)?,
-        other => neither(other, values)?,
+    match call {
+        "hermite" => reduction(alloc, tower, level, normal, most, values),
+        "residues" => residues_of(alloc, tower, level, normal, most, values),
+        _ => values.cause(NO_CALL),
     }
-    values.whole(Some(counter.count()))
+}
+
+fn reduction(alloc: Global, tower: &Tower, level: u8, normal: &Elem, most: u64, values: &mut Values)
+    requires level { level ≤ length tower.now }
+    requires within { Within (level + 1) normal.now }
+    requires normal { HasNormalDivisors (level_derivation (monomials tower.now) level) (polynomial (denominator_at level normal.now)) }
+{
+    let mut counter = Counter::new(most);
+    values.reduction(alloc, hermite(alloc, tower, level, normal, &mut counter));
+    values.whole(counter.count())
 }
 
 fn residues_of(
@@ -191,40 +223,32 @@ fn residues_of(
     tower: &Tower,
     level: u8,
     normal: &Elem,
-    most: u16,
+    most: u64,
     values: &mut Values,
-) -> Result<(), Halt>
+)
     requires level { level ≤ length tower.now }
     requires within { Within (level + 1) normal.now }
     requires normal { HasNormalDivisors (level_derivation (monomials tower.now) level) (polynomial (denominator_at level normal.now)) }
 {
-    let mut counter = Counter::new(u64::from(most));
+    let mut counter = Counter::new(most);
     match hermite(alloc, tower, level, normal, &mut counter) {
         Run::Done(reduction) => residues_in(alloc, tower, level, &reduction.h, most, values),
-        other => neither(other, values),
+        Run::Stopped(stop) => values.stop(stop),
+        Run::Left => values.left(),
+        Run::Memory => values.memory(),
     }
 }
 
-fn residues_in(
-    alloc: Global,
-    tower: &Tower,
-    level: u8,
-    h: &Elem,
-    most: u16,
-    values: &mut Values,
-) -> Result<(), Halt>
+fn residues_in(alloc: Global, tower: &Tower, level: u8, h: &Elem, most: u64, values: &mut Values)
     requires level { level ≤ length tower.now }
     requires within { Within (level + 1) h.now }
     requires proper { length (numerator_at level h.now) < length (denominator_at level h.now) }
     requires normal { IsNormal elements (level_derivation (monomials tower.now) level) (polynomial (denominator_at level h.now)) }
 {
     if h.is_zero() {
-        return Err(Halt::cause("an element without a simple part"));
+        return values.cause("an element without a simple part");
     }
-    let mut counter = Counter::new(u64::from(most));
-    match residues(alloc, tower, level, h, &mut counter) {
-        Run::Done(residues) => values.residues(alloc, &residues)?,
-        other => neither(other, values)?,
-    }
-    values.whole(Some(counter.count()))
+    let mut counter = Counter::new(most);
+    values.residues(alloc, residues(alloc, tower, level, h, &mut counter));
+    values.whole(counter.count())
 }

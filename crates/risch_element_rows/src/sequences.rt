@@ -2,12 +2,11 @@
 ghost use Rattle.std.specs.Prelude.{◌≤◌, ◌<◌, length, IsTrue};
 ghost use Rattle.risch_sub.specs.RemainderSequence.{leading};
 
-use crate::halt::Halt;
-use crate::operands::{constant, exponent, polynomials};
+use crate::operands::{NO_CALL, exponent_of, polynomials};
 use crate::values::Values;
-use risch_elem::{Poly, PolyList};
+use risch_elem::{Fail, Items, Poly, PolyList};
 use risch_sub::remainders;
-use std::alloc::Global;
+use std::alloc::{AllocError, Global};
 
 // Whether the leading coefficient is not 0.
 fn has_leading(member: &PolyList) -> bool
@@ -31,51 +30,86 @@ fn begin(d: &PolyList, b: &PolyList) -> bool
 }
 
 // The polynomials once more.
-fn member(alloc: Global, of: &[Poly]) -> Result<PolyList, Halt> {
+fn member(alloc: Global, of: &[Poly]) -> Result<PolyList, AllocError> {
     let mut member = PolyList::new(alloc);
     for coefficient in of {
-        member.push(coefficient.copy(alloc)?)?;
+        push_copy(alloc, &mut member, coefficient)?;
     }
     Ok(member)
 }
 
+fn push_copy(alloc: Global, to: &mut PolyList, polynomial: &Poly) -> Result<(), AllocError> {
+    match polynomial.copy(alloc) {
+        Ok(copy) => to.push(copy),
+        Err(error) => Err(error),
+    }
+}
+
 /// Plays the call: the least degree, the number of the coefficients of the first member, and the coefficients of the first two.
-pub fn play(alloc: Global, operands: &str, values: &mut Values) -> Result<(), Halt> {
-    let operands = polynomials(alloc, operands)?;
-    match operands.as_slice() {
-        [least, count, coefficients @ ..] => {
-            let least = exponent(constant(alloc, least)?.as_num())?;
-            let count = usize::from(exponent(constant(alloc, count)?.as_num())?);
-            if count > coefficients.len() {
-                return Err(Halt::cause("too few coefficients"));
-            }
-            let (d, b) = coefficients.split_at(count);
-            sequence(alloc, &member(alloc, d)?, &member(alloc, b)?, least, values)
-        }
-        _ => Err(Halt::cause("no such call")),
+pub fn play(alloc: Global, operands: &str, values: &mut Values) {
+    match polynomials(alloc, operands) {
+        Ok(operands) => of(alloc, operands.as_slice(), values),
+        Err(halt) => values.refuse(halt),
     }
 }
 
-fn sequence(
-    alloc: Global,
-    d: &PolyList,
-    b: &PolyList,
-    least: u16,
-    values: &mut Values,
-) -> Result<(), Halt> {
-    if !begin(d, b) {
-        return Err(Halt::cause("polynomials that begin no sequence"));
+fn of(alloc: Global, operands: &[Poly], values: &mut Values) {
+    match operands {
+        [least, count, coefficients @ ..] => of_least(alloc, least, count, coefficients, values),
+        _ => values.cause(NO_CALL),
     }
-    for member in remainders(alloc, d, b, least)?.as_slice() {
-        coefficients(alloc, member.as_slice(), values)?;
-    }
-    Ok(())
 }
 
-// The coefficients of a member, and where they end.
-fn coefficients(alloc: Global, member: &[Poly], values: &mut Values) -> Result<(), Halt> {
-    for coefficient in member {
-        values.polynomial(coefficient.copy(alloc)?)?;
+fn of_least(alloc: Global, least: &Poly, count: &Poly, of: &[Poly], values: &mut Values) {
+    match exponent_of(least) {
+        Ok(least) => of_count(alloc, least, count, of, values),
+        Err(halt) => values.refuse(halt),
     }
-    values.name("end")
+}
+
+fn of_count(alloc: Global, least: u16, count: &Poly, of: &[Poly], values: &mut Values) {
+    match exponent_of(count) {
+        Ok(count) => of_coefficients(alloc, least, usize::from(count), of, values),
+        Err(halt) => values.refuse(halt),
+    }
+}
+
+fn of_coefficients(alloc: Global, least: u16, count: usize, of: &[Poly], values: &mut Values) {
+    if count > of.len() {
+        return values.cause("too few coefficients");
+    }
+    let (d, b) = of.split_at(count);
+    match member(alloc, d) {
+        Ok(d) => of_first(alloc, least, &d, b, values),
+        Err(_) => values.memory(),
+    }
+}
+
+fn of_first(alloc: Global, least: u16, d: &PolyList, b: &[Poly], values: &mut Values) {
+    match member(alloc, b) {
+        Ok(b) => sequence(alloc, least, d, &b, values),
+        Err(_) => values.memory(),
+    }
+}
+
+fn sequence(alloc: Global, least: u16, d: &PolyList, b: &PolyList, values: &mut Values) {
+    if begin(d, b) {
+        members(alloc, remainders(alloc, d, b, least), values)
+    } else {
+        values.cause("polynomials that begin no sequence")
+    }
+}
+
+fn members(alloc: Global, members: Result<Items<PolyList>, Fail>, values: &mut Values) {
+    match members {
+        Ok(members) => each(alloc, members.as_slice(), values),
+        Err(fail) => values.fail(fail),
+    }
+}
+
+// The coefficients of each member, and where they end.
+fn each(alloc: Global, members: &[PolyList], values: &mut Values) {
+    for member in members {
+        values.polynomials(alloc, member.as_slice());
+    }
 }

@@ -1,9 +1,9 @@
 // The calls of towers.
-use crate::halt::Halt;
-use crate::operands::{element, elements, level};
+use crate::halt::name_of;
+use crate::operands::{NO_CALL, element, elements, level};
 use crate::values::Values;
 use risch_elem::Elem;
-use risch_tower::{Kind, Monomial, Tower};
+use risch_tower::{Kind, Monomial, PushFault, Tower};
 use std::alloc::Global;
 
 /// The tower of a case, and one that is compared with it.
@@ -23,75 +23,101 @@ impl Towers {
 }
 
 /// Plays a call.
-pub fn play(
-    alloc: Global,
-    towers: &Towers,
-    call: &str,
-    operands: &str,
-    values: &mut Values,
-) -> Result<(), Halt> {
-    let operands = elements(alloc, operands)?;
-    match operands.as_slice() {
+pub fn play(alloc: Global, towers: &Towers, call: &str, operands: &str, values: &mut Values) {
+    match elements(alloc, operands) {
+        Ok(operands) => of(alloc, towers, call, operands.as_slice(), values),
+        Err(halt) => values.refuse(halt),
+    }
+}
+
+fn of(alloc: Global, towers: &Towers, call: &str, operands: &[Elem], values: &mut Values) {
+    match operands {
         [] => of_none(towers, call, values),
-        [at] => of_level(alloc, &towers.tower, call, level(at.as_num())?, values),
-        _ => Err(Halt::cause("no such call")),
+        [at] => of_one(alloc, &towers.tower, call, at, values),
+        _ => values.cause(NO_CALL),
     }
 }
 
-fn of_none(towers: &Towers, call: &str, values: &mut Values) -> Result<(), Halt> {
+fn of_none(towers: &Towers, call: &str, values: &mut Values) {
     match call {
-        "height" => values.whole(Some(u64::from(towers.tower.height()))),
+        "height" => values.whole(u64::from(towers.tower.height())),
         "same" => values.answer(towers.tower.same(&towers.other)),
-        _ => Err(Halt::cause("no such call")),
+        _ => values.cause(NO_CALL),
     }
 }
 
-fn of_level(
-    alloc: Global,
-    tower: &Tower,
-    call: &str,
-    level: u8,
-    values: &mut Values,
-) -> Result<(), Halt> {
+fn of_one(alloc: Global, tower: &Tower, call: &str, at: &Elem, values: &mut Values) {
+    match level(at.as_num()) {
+        Ok(level) => of_level(alloc, tower, call, level, values),
+        Err(halt) => values.refuse(halt),
+    }
+}
+
+fn of_level(alloc: Global, tower: &Tower, call: &str, level: u8, values: &mut Values) {
     if level > tower.height() {
-        return Err(Halt::cause("no such level"));
+        return values.cause("no such level");
     }
     match call {
         "kind" => kind(tower.kind(level), values),
-        "eta" => values.element(tower.eta(level).copy(alloc)?),
+        "eta" => values.copied(tower.eta(level).copy(alloc)),
         "pushed" if level > 0 => pushed(alloc, tower.pushed(level), values),
-        _ => Err(Halt::cause("no such call")),
+        _ => values.cause(NO_CALL),
     }
 }
 
-fn kind(kind: Kind, values: &mut Values) -> Result<(), Halt> {
-    values.name(match kind {
-        Kind::Primitive => "primitive",
-        Kind::Exponential => "exponential",
-    })
+fn kind(kind: Kind, values: &mut Values) {
+    match kind {
+        Kind::Primitive => values.name("primitive"),
+        Kind::Exponential => values.name("exponential"),
+    }
 }
 
-fn pushed(alloc: Global, monomial: &Monomial, values: &mut Values) -> Result<(), Halt> {
-    values.element(monomial.argument().copy(alloc)?)?;
-    values.name(match monomial {
-        Monomial::Log(_) => "log",
-        Monomial::Exp(_) => "exp",
-    })
+fn pushed(alloc: Global, monomial: &Monomial, values: &mut Values) {
+    values.copied(monomial.argument().copy(alloc));
+    match monomial {
+        Monomial::Log(_) => values.name("log"),
+        Monomial::Exp(_) => values.name("exp"),
+    }
 }
 
 /// Pushes the logarithm or the exponential of an argument on a tower.
-pub fn push(alloc: Global, tower: &mut Tower, kind: &str, argument: &str) -> Result<(), Halt> {
-    let monomial = monomial(kind, element(alloc, argument)?)?;
-    if !monomial.argument().is_within(tower.height() + 1) {
-        return Err(Halt::cause("an element that does not lie in the tower"));
+pub fn push(alloc: Global, tower: &mut Tower, kind: &str, argument: &str, values: &mut Values) {
+    match element(alloc, argument) {
+        Ok(argument) => push_of(alloc, tower, kind, argument, values),
+        Err(halt) => values.refuse(halt),
     }
-    Ok(tower.push(alloc, monomial)?)
 }
 
-fn monomial(kind: &str, argument: Elem) -> Result<Monomial, Halt> {
+fn push_of(alloc: Global, tower: &mut Tower, kind: &str, argument: Elem, values: &mut Values) {
     match kind {
-        "log" => Ok(Monomial::Log(argument)),
-        "exp" => Ok(Monomial::Exp(argument)),
-        _ => Err(Halt::cause("neither log nor exp")),
+        "log" => push_monomial(alloc, tower, Monomial::Log(argument), values),
+        "exp" => push_monomial(alloc, tower, Monomial::Exp(argument), values),
+        _ => values.cause("neither log nor exp"),
+    }
+}
+
+fn push_monomial(alloc: Global, tower: &mut Tower, monomial: Monomial, values: &mut Values) {
+    if monomial.argument().is_within(tower.height() + 1) {
+        is_pushed(tower.push(alloc, monomial), values)
+    } else {
+        values.cause("an element that does not lie in the tower")
+    }
+}
+
+fn is_pushed(pushed: Result<(), PushFault>, values: &mut Values) {
+    match pushed {
+        Ok(()) => {}
+        Err(fault) => refused(fault, values),
+    }
+}
+
+fn refused(fault: PushFault, values: &mut Values) {
+    match fault {
+        PushFault::TooHigh => values.name("too-high"),
+        PushFault::ZeroArgument => values.name("zero-argument"),
+        PushFault::ConstantArgument => values.name("constant-argument"),
+        PushFault::Overflow(op) => values.name(name_of(op)),
+        PushFault::Size => values.name("size"),
+        PushFault::Memory => values.memory(),
     }
 }

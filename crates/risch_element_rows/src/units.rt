@@ -1,24 +1,40 @@
 // Units.
-use crate::halt::Halt;
 use crate::values::Values;
 use risch_elem::{Counter, Run, Units};
-use risch_tables::Fault;
+use risch_tables::first_word;
+use std::num::ParseIntError;
 
 /// Counts units, of which there are at most so many.
-pub fn play(most: &str, calls: &str, values: &mut Values) -> Result<(), Halt> {
-    let (most, calls) = numbers(most, calls)?;
+pub fn play(operands: &str, values: &mut Values) -> Result<(), ParseIntError> {
+    let (most, calls) = first_word(operands);
+    match most.parse() {
+        Ok(most) => of_most(most, calls, values),
+        Err(error) => Err(error),
+    }
+}
+
+fn of_most(most: u64, calls: &str, values: &mut Values) -> Result<(), ParseIntError> {
+    match calls.parse() {
+        Ok(calls) => Ok(count(most, calls, values)),
+        Err(error) => Err(error),
+    }
+}
+
+fn count(most: u64, calls: u16, values: &mut Values) {
     let mut counter = Counter::new(most);
     let mut end = "done";
     for _ in 0..calls {
-        match counter.unit() {
-            Run::Done(()) => {}
-            _ => end = "budget",
+        if !is_counted(&mut counter) {
+            end = "budget";
         }
     }
-    values.whole(Some(counter.count()))?;
-    values.name(end)
+    values.whole(counter.count());
+    values.name(end);
 }
 
-fn numbers(most: &str, calls: &str) -> Result<(u64, u16), Fault> {
-    Ok((most.parse()?, calls.parse()?))
+fn is_counted(counter: &mut Counter) -> bool {
+    match counter.unit() {
+        Run::Done(()) => true,
+        _ => false,
+    }
 }

@@ -1,15 +1,16 @@
 // The values that the calls of a case give.
 use crate::conditions::are_coefficients;
-use crate::halt::Halt;
+use crate::halt::{Halt, name_of};
 use crate::operands::{element, polynomial};
 use risch_cert::{print_elem, print_poly_in_z};
-use risch_elem::{Elem, ElemList, Poly};
+use risch_elem::{Elem, ElemList, Fail, Poly, PolyList, Run, Stop};
 use risch_frac::Frac;
 use risch_hermite::Hermite;
 use risch_io::Text;
 use risch_residue::Residues;
 use risch_rootsum::LogPart;
 use risch_split::{Canonical, Split};
+use risch_tables::Fault;
 use std::alloc::{AllocError, Global};
 
 #[derive(Drop)]
@@ -20,18 +21,68 @@ enum Value {
     Name(&'static str),
 }
 
+// Whether a word stands for an element.
+fn is_element(alloc: Global, value: &Elem, word: &str) -> bool {
+    match element(alloc, word) {
+        Ok(written) => value.same(&written),
+        Err(_) => false,
+    }
+}
+
+// Whether a word stands for a polynomial.
+fn is_polynomial(alloc: Global, value: &Poly, word: &str) -> bool {
+    match polynomial(alloc, word) {
+        Ok(written) => value.same(&written),
+        Err(_) => false,
+    }
+}
+
+// Appends a blank where there are words before.
+fn push_blank(text: &mut String) -> Result<(), AllocError> {
+    if text.is_empty() {
+        Ok(())
+    } else {
+        text.push_str(" ")
+    }
+}
+
+/// Appends words.
+pub fn append(text: &mut String, words: &str) -> Result<(), AllocError> {
+    match push_blank(text) {
+        Ok(()) => text.push_str(words),
+        Err(error) => Err(error),
+    }
+}
+
+fn push(text: &mut String, word: &Text) -> Result<(), AllocError> {
+    push_blank(text)?;
+    for byte in word.as_slice() {
+        text.push(char::from(*byte))?;
+    }
+    Ok(())
+}
+
+// Appends the text of a value.
+fn push_formed(text: &mut String, word: Result<Text, AllocError>) -> Result<(), AllocError> {
+    match word {
+        Ok(word) => push(text, &word),
+        Err(error) => Err(error),
+    }
+}
+
 impl Value {
-    // Whether a word stands for this value.
-    fn is_written(&self, alloc: Global, word: &str) -> bool {
+    // Whether there is a word that stands for this value.
+    fn is_written(&self, alloc: Global, word: Option<&str>) -> bool {
+        match word {
+            Some(word) => self.is(alloc, word),
+            None => false,
+        }
+    }
+
+    fn is(&self, alloc: Global, word: &str) -> bool {
         match self {
-            Value::Element(value) => match element(alloc, word) {
-                Ok(written) => value.same(&written),
-                Err(_) => false,
-            },
-            Value::Polynomial(value) => match polynomial(alloc, word) {
-                Ok(written) => value.same(&written),
-                Err(_) => false,
-            },
+            Value::Element(value) => is_element(alloc, value, word),
+            Value::Polynomial(value) => is_polynomial(alloc, value, word),
             Value::Name(name) => *name == word,
         }
     }
@@ -39,163 +90,350 @@ impl Value {
     // Appends a word that stands for this value.
     fn write(&self, alloc: Global, text: &mut String) -> Result<(), AllocError> {
         match self {
-            Value::Element(element) => push(text, &print_elem(alloc, element)?),
-            Value::Polynomial(polynomial) => push(
+            Value::Element(element) => push_formed(text, print_elem(alloc, element)),
+            Value::Polynomial(polynomial) => push_formed(
                 text,
-                &print_poly_in_z(alloc, polynomial.inner().coefficients())?,
+                print_poly_in_z(alloc, polynomial.inner().coefficients()),
             ),
-            Value::Name(name) => text.push_str(name),
+            Value::Name(name) => append(text, name),
         }
     }
 }
 
-fn push(text: &mut String, word: &Text) -> Result<(), AllocError> {
-    for byte in word.as_slice() {
-        text.push(char::from(*byte))?;
-    }
-    Ok(())
-}
-
-/// The values that the calls of a case give, in the order of the calls.
+/// The values that the calls of a case give, in the order of the calls, and why the line that is read is refused.
 #[derive(Drop)]
 pub struct Values {
     list: Vec<Value>,
+    halt: Option<Halt>,
 }
 
 impl Values {
     pub fn new(alloc: Global) -> Values {
         Values {
             list: Vec::new(alloc),
+            halt: None,
         }
     }
 
-    /// The stop or the refusal of a call, by its name.
-    pub fn stop(&mut self, name: &'static str) -> Result<(), AllocError> {
-        self.list.push(Value::Name(name))?;
-        Ok(())
-    }
-
-    pub fn name(&mut self, name: &'static str) -> Result<(), Halt> {
-        self.list.push(Value::Name(name))?;
-        Ok(())
-    }
-
-    pub fn element(&mut self, element: Elem) -> Result<(), Halt> {
-        self.list.push(Value::Element(element))?;
-        Ok(())
-    }
-
-    pub fn polynomial(&mut self, polynomial: Poly) -> Result<(), Halt> {
-        self.list.push(Value::Polynomial(polynomial))?;
-        Ok(())
-    }
-
-    pub fn answer(&mut self, answer: bool) -> Result<(), Halt> {
-        self.name(if answer { "yes" } else { "no" })
-    }
-
-    /// A number that may be wanting.
-    pub fn number(&mut self, number: Option<Frac>) -> Result<(), Halt> {
-        match number {
-            Some(number) => self.element(Elem::num(number)),
-            None => self.name("none"),
+    /// The line is refused; the first cause is told.
+    pub fn refuse(&mut self, halt: Halt) {
+        if self.halt.is_none() {
+            self.halt = Some(halt);
         }
+    }
+
+    /// The line is badly written.
+    pub fn cause(&mut self, text: &'static str) {
+        self.refuse(Halt::Cause(text))
+    }
+
+    /// No memory is left.
+    pub fn memory(&mut self) {
+        self.refuse(Halt::Memory)
+    }
+
+    /// Whether the line is refused. That of the next line is not.
+    pub fn refusal(&mut self) -> Result<(), Fault> {
+        match self.halt.take() {
+            None => Ok(()),
+            Some(halt) => Err(halt.fault()),
+        }
+    }
+
+    fn add(&mut self, value: Value) {
+        match self.list.push(value) {
+            Ok(()) => {}
+            Err(_) => self.memory(),
+        }
+    }
+
+    pub fn name(&mut self, name: &'static str) {
+        self.add(Value::Name(name))
+    }
+
+    pub fn element(&mut self, element: Elem) {
+        self.add(Value::Element(element))
+    }
+
+    pub fn polynomial(&mut self, polynomial: Poly) {
+        self.add(Value::Polynomial(polynomial))
+    }
+
+    /// The stop of a call.
+    pub fn fail(&mut self, fail: Fail) {
+        match fail {
+            Fail::Overflow(op) => self.name(name_of(op)),
+            Fail::Size => self.name("size"),
+            Fail::Memory => self.memory(),
+        }
+    }
+
+    /// The stop of a run.
+    pub fn stop(&mut self, stop: Stop) {
+        match stop {
+            Stop::Overflow(op) => self.name(name_of(op)),
+            Stop::Size => self.name("size"),
+            Stop::Case(_) => self.name("case"),
+            Stop::NotSound(constant) => self.not_sound(constant),
+            Stop::Budget => self.name("budget"),
+        }
+    }
+
+    fn not_sound(&mut self, constant: Elem) {
+        self.name("not-sound");
+        self.element(constant)
+    }
+
+    /// An element, or the stop of its call.
+    pub fn formed(&mut self, element: Result<Elem, Fail>) {
+        match element {
+            Ok(element) => self.element(element),
+            Err(fail) => self.fail(fail),
+        }
+    }
+
+    /// An element that stops for want of memory alone.
+    pub fn copied(&mut self, element: Result<Elem, AllocError>) {
+        match element {
+            Ok(element) => self.element(element),
+            Err(_) => self.memory(),
+        }
+    }
+
+    /// A polynomial, or the stop of its call.
+    pub fn formed_polynomial(&mut self, polynomial: Result<Poly, Fail>) {
+        match polynomial {
+            Ok(polynomial) => self.polynomial(polynomial),
+            Err(fail) => self.fail(fail),
+        }
+    }
+
+    /// A polynomial that stops for want of memory alone.
+    pub fn copied_polynomial(&mut self, polynomial: Result<Poly, AllocError>) {
+        match polynomial {
+            Ok(polynomial) => self.polynomial(polynomial),
+            Err(_) => self.memory(),
+        }
+    }
+
+    /// Two polynomials, or the stop of their call.
+    pub fn formed_pair(&mut self, pair: Result<(Poly, Poly), Fail>) {
+        match pair {
+            Ok((first, second)) => self.pair(first, second),
+            Err(fail) => self.fail(fail),
+        }
+    }
+
+    fn pair(&mut self, first: Poly, second: Poly) {
+        self.polynomial(first);
+        self.polynomial(second)
+    }
+
+    /// A polynomial that may be wanting, or the stop of its call.
+    pub fn found(&mut self, polynomial: Result<Option<Poly>, Fail>) {
+        match polynomial {
+            Ok(Some(polynomial)) => self.polynomial(polynomial),
+            Ok(None) => self.name("none"),
+            Err(fail) => self.fail(fail),
+        }
+    }
+
+    pub fn answer(&mut self, answer: bool) {
+        if answer {
+            self.name("yes")
+        } else {
+            self.name("no")
+        }
+    }
+
+    pub fn number(&mut self, number: Frac) {
+        self.element(Elem::num(number))
     }
 
     /// A whole number, with its sign.
-    pub fn integer(&mut self, number: i16) -> Result<(), Halt> {
-        self.element(Elem::num(Frac::new(i128::from(number), 1)))
+    pub fn integer(&mut self, number: i16) {
+        self.number(Frac::new(i128::from(number), 1))
     }
 
-    /// A whole number that may be wanting.
-    pub fn whole(&mut self, number: Option<u64>) -> Result<(), Halt> {
-        match number {
-            Some(number) => self.element(Elem::num(Frac::new(i128::from(number), 1))),
-            None => self.name("none"),
+    /// A whole number.
+    pub fn whole(&mut self, number: u64) {
+        self.number(Frac::new(i128::from(number), 1))
+    }
+
+    /// Polynomials, and where they end.
+    pub fn polynomials(&mut self, alloc: Global, polynomials: &[Poly]) {
+        for polynomial in polynomials {
+            self.copied_polynomial(polynomial.copy(alloc));
+        }
+        self.name("end")
+    }
+
+    /// Polynomials and where they end, or the stop of their call.
+    pub fn formed_polynomials(&mut self, alloc: Global, polynomials: Result<PolyList, Fail>) {
+        match polynomials {
+            Ok(polynomials) => self.polynomials(alloc, polynomials.as_slice()),
+            Err(fail) => self.fail(fail),
         }
     }
 
-    /// The normal and the special part.
-    pub fn split(&mut self, alloc: Global, split: &Split) -> Result<(), Halt> {
-        let copy = split.copy(alloc)?;
-        self.polynomial(copy.normal)?;
-        self.polynomial(copy.special)
-    }
-
-    /// The reduced and the normal part.
-    pub fn canonical(&mut self, alloc: Global, parts: &Canonical) -> Result<(), Halt> {
-        let copy = parts.copy(alloc)?;
-        self.element(copy.reduced)?;
-        self.element(copy.normal)
-    }
-
-    /// The three elements of a reduction.
-    pub fn reduction(&mut self, alloc: Global, reduction: &Hermite) -> Result<(), Halt> {
-        let copy = reduction.copy(alloc)?;
-        self.element(copy.g)?;
-        self.element(copy.h)?;
-        self.element(copy.rest)
-    }
-
-    /// R and S of each logarithm, and the sum of the residues; or the power and the trace by which they are not constant.
-    pub fn residues(&mut self, alloc: Global, residues: &Residues) -> Result<(), Halt> {
-        match residues {
-            Residues::Constant { logs, trace } => {
-                self.logarithms(alloc, logs.as_slice())?;
-                self.element(Elem::num(*trace))
-            }
-            Residues::NotConstant { power, trace } => {
-                self.whole(Some(u64::from(*power)))?;
-                self.element(trace.copy(alloc)?)
-            }
+    /// Elements.
+    fn elements(&mut self, alloc: Global, elements: &[Elem]) {
+        for element in elements {
+            self.copied(element.copy(alloc));
         }
     }
 
-    fn logarithms(&mut self, alloc: Global, parts: &[LogPart]) -> Result<(), Halt> {
-        for part in parts {
-            self.logarithm(alloc, part)?;
+    /// Elements, or the stop of their call.
+    pub fn formed_elements(&mut self, alloc: Global, elements: Result<ElemList, Fail>) {
+        match elements {
+            Ok(elements) => self.elements(alloc, elements.as_slice()),
+            Err(fail) => self.fail(fail),
         }
-        Ok(())
-    }
-
-    fn logarithm(&mut self, alloc: Global, part: &LogPart) -> Result<(), Halt> {
-        let mut numbers = ElemList::new(alloc);
-        for number in part.poly.as_slice() {
-            numbers.push(Elem::num(*number))?;
-        }
-        self.coefficients(numbers)?;
-        self.coefficients(part.arg.copy(alloc)?)
     }
 
     /// The polynomial with these coefficients from exponent 0.
-    pub fn coefficients(&mut self, coefficients: ElemList) -> Result<(), Halt> {
-        if !are_coefficients(&coefficients) {
-            return Err(Halt::cause("coefficients beyond the limits"));
+    pub fn coefficients(&mut self, coefficients: ElemList) {
+        if are_coefficients(&coefficients) {
+            self.copied_polynomial(Poly::of(coefficients))
+        } else {
+            self.cause("coefficients beyond the limits")
         }
-        self.polynomial(Poly::of(coefficients)?)
+    }
+
+    fn copied_coefficients(&mut self, coefficients: Result<ElemList, AllocError>) {
+        match coefficients {
+            Ok(coefficients) => self.coefficients(coefficients),
+            Err(_) => self.memory(),
+        }
+    }
+
+    /// The normal and the special part, or how their run ends.
+    pub fn split(&mut self, alloc: Global, run: Run<Split>) {
+        match run {
+            Run::Done(parts) => self.copied_split(parts.copy(alloc)),
+            Run::Stopped(stop) => self.stop(stop),
+            Run::Left => self.left(),
+            Run::Memory => self.memory(),
+        }
+    }
+
+    fn copied_split(&mut self, parts: Result<Split, AllocError>) {
+        match parts {
+            Ok(parts) => self.pair(parts.normal, parts.special),
+            Err(_) => self.memory(),
+        }
+    }
+
+    /// The reduced and the normal part, or how their run ends.
+    pub fn canonical(&mut self, alloc: Global, run: Run<Canonical>) {
+        match run {
+            Run::Done(parts) => self.copied_canonical(parts.copy(alloc)),
+            Run::Stopped(stop) => self.stop(stop),
+            Run::Left => self.left(),
+            Run::Memory => self.memory(),
+        }
+    }
+
+    fn copied_canonical(&mut self, parts: Result<Canonical, AllocError>) {
+        match parts {
+            Ok(parts) => self.two(parts.reduced, parts.normal),
+            Err(_) => self.memory(),
+        }
+    }
+
+    fn two(&mut self, first: Elem, second: Elem) {
+        self.element(first);
+        self.element(second)
+    }
+
+    /// The three elements of a reduction, or how its run ends.
+    pub fn reduction(&mut self, alloc: Global, run: Run<Hermite>) {
+        match run {
+            Run::Done(reduction) => self.copied_reduction(reduction.copy(alloc)),
+            Run::Stopped(stop) => self.stop(stop),
+            Run::Left => self.left(),
+            Run::Memory => self.memory(),
+        }
+    }
+
+    fn copied_reduction(&mut self, reduction: Result<Hermite, AllocError>) {
+        match reduction {
+            Ok(reduction) => self.three(reduction.g, reduction.h, reduction.rest),
+            Err(_) => self.memory(),
+        }
+    }
+
+    fn three(&mut self, first: Elem, second: Elem, third: Elem) {
+        self.two(first, second);
+        self.element(third)
+    }
+
+    /// What the residues are, or how their run ends.
+    pub fn residues(&mut self, alloc: Global, run: Run<Residues>) {
+        match run {
+            Run::Done(residues) => self.residues_of(alloc, &residues),
+            Run::Stopped(stop) => self.stop(stop),
+            Run::Left => self.left(),
+            Run::Memory => self.memory(),
+        }
+    }
+
+    // R and S of each logarithm, and the sum of the residues; or the power and the trace by which they are not constant.
+    fn residues_of(&mut self, alloc: Global, residues: &Residues) {
+        match residues {
+            Residues::Constant { logs, trace } => self.constant(alloc, logs.as_slice(), *trace),
+            Residues::NotConstant { power, trace } => self.not_constant(alloc, *power, trace),
+        }
+    }
+
+    fn constant(&mut self, alloc: Global, logarithms: &[LogPart], sum: Frac) {
+        for logarithm in logarithms {
+            self.logarithm(alloc, logarithm);
+        }
+        self.number(sum)
+    }
+
+    fn not_constant(&mut self, alloc: Global, power: u16, trace: &Elem) {
+        self.whole(u64::from(power));
+        self.copied(trace.copy(alloc))
+    }
+
+    fn logarithm(&mut self, alloc: Global, logarithm: &LogPart) {
+        self.copied_coefficients(numbers(alloc, logarithm.poly.as_slice()));
+        self.copied_coefficients(logarithm.arg.copy(alloc))
+    }
+
+    /// A run that was left.
+    pub fn left(&mut self) {
+        self.cause("a run that was left")
     }
 
     /// Whether words stand for these values, one for each.
     pub fn are_written(&self, alloc: Global, words: &str) -> bool {
-        let mut values = self.list.iter();
-        for word in words.split_whitespace() {
-            match values.next() {
-                Some(value) if value.is_written(alloc, word) => {}
-                _ => return false,
+        let mut words = words.split_whitespace();
+        for value in &self.list {
+            if !value.is_written(alloc, words.next()) {
+                return false;
             }
         }
-        values.next().is_none()
+        words.next().is_none()
     }
 
     /// Words that stand for these values.
     pub fn text(&self, alloc: Global) -> Result<String, AllocError> {
         let mut text = String::new(alloc);
         for value in &self.list {
-            if !text.is_empty() {
-                text.push_str(" ")?;
-            }
             value.write(alloc, &mut text)?;
         }
         Ok(text)
     }
+}
+
+// The elements that fractions are.
+fn numbers(alloc: Global, fractions: &[Frac]) -> Result<ElemList, AllocError> {
+    let mut numbers = ElemList::new(alloc);
+    for fraction in fractions {
+        numbers.push(Elem::num(*fraction))?;
+    }
+    Ok(numbers)
 }

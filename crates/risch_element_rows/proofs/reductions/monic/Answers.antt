@@ -1,4 +1,4 @@
 use Rattle.risch_element_rows.proofs.reductions.monic.Goals as goal
 
-pub returns-clause-within : goal.returns-clause-within
-returns-clause-within c n all = c.in_ok-gcd.ensures.within n all (c.in_ok-zero.ensures.within n (rw c.new.ensures tt))
+pub returns-in-Ok-clause-within : goal.returns-in-Ok-clause-within
+returns-in-Ok-clause-within c n all = c.gcd.ensures.within n all (c.in-Ok.ensures.within n (rw c.new.ensures tt))
