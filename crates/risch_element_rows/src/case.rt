@@ -17,7 +17,12 @@ pub struct ElementCase {
 impl Case for ElementCase {
     fn begin(alloc: Global, name: &str) -> Result<ElementCase, AllocError> {
         match String::from_str(alloc, name) {
-            Ok(name) => Ok(ElementCase::named(alloc, name)),
+            Ok(name) => Ok(ElementCase {
+                name,
+                towers: Towers::new(alloc),
+                values: Values::new(alloc),
+                expected: String::new(alloc),
+            }),
             Err(error) => Err(error),
         }
     }
@@ -45,15 +50,6 @@ impl Case for ElementCase {
 }
 
 impl ElementCase {
-    fn named(alloc: Global, name: String) -> ElementCase {
-        ElementCase {
-            name,
-            towers: Towers::new(alloc),
-            values: Values::new(alloc),
-            expected: String::new(alloc),
-        }
-    }
-
     fn expect(&mut self, words: &str) -> Result<(), Fault> {
         match append(&mut self.expected, words) {
             Ok(()) => Ok(()),

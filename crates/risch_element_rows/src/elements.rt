@@ -36,25 +36,17 @@ fn of_one(alloc: Global, tower: &Tower, call: &str, a: &Elem, values: &mut Value
 
 fn about(call: &str, a: &Elem, values: &mut Values) {
     match call {
-        "as_num" => as_num(a, values),
-        "level" => level_or_none(a, values),
+        "as_num" => match a.as_num() {
+            Some(number) => values.number(number),
+            None => values.name("none"),
+        },
+        "level" => match a.level() {
+            Some(level) => values.whole(u64::from(level)),
+            None => values.name("none"),
+        },
         "weight" => values.whole(u64::from(a.weight())),
         "is_zero" => values.answer(a.is_zero()),
         _ => values.cause(NO_CALL),
-    }
-}
-
-fn as_num(a: &Elem, values: &mut Values) {
-    match a.as_num() {
-        Some(number) => values.number(number),
-        None => values.name("none"),
-    }
-}
-
-fn level_or_none(a: &Elem, values: &mut Values) {
-    match a.level() {
-        Some(level) => values.whole(u64::from(level)),
-        None => values.name("none"),
     }
 }
 

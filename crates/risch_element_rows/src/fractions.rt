@@ -18,30 +18,19 @@ pub fn play(alloc: Global, call: &str, operands: &str, values: &mut Values) {
 
 fn of(call: &str, operands: &[Elem], values: &mut Values) {
     match operands {
-        [a] => of_one(call, a.as_num(), values),
-        [a, b] => of_two(call, a.as_num(), b.as_num(), values),
+        [a] => match a.as_num() {
+            Some(a) => of_number(call, a, values),
+            None => values.cause(NO_NUMBER),
+        },
+        [a, b] => of_both(call, a.as_num(), b.as_num(), values),
         _ => values.cause(NO_CALL),
     }
 }
 
-fn of_one(call: &str, a: Option<Frac>, values: &mut Values) {
-    match a {
-        Some(a) => of_number(call, a, values),
-        None => values.cause(NO_NUMBER),
-    }
-}
-
-fn of_two(call: &str, a: Option<Frac>, b: Option<Frac>, values: &mut Values) {
-    match a {
-        Some(a) => of_second(call, a, b, values),
-        None => values.cause(NO_NUMBER),
-    }
-}
-
-fn of_second(call: &str, a: Frac, b: Option<Frac>, values: &mut Values) {
-    match b {
-        Some(b) => of_numbers(call, a, b, values),
-        None => values.cause(NO_NUMBER),
+fn of_both(call: &str, a: Option<Frac>, b: Option<Frac>, values: &mut Values) {
+    match (a, b) {
+        (Some(a), Some(b)) => of_numbers(call, a, b, values),
+        _ => values.cause(NO_NUMBER),
     }
 }
 

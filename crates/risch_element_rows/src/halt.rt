@@ -1,7 +1,5 @@
 // Why a line is refused, and the names of stops.
 use risch_frac::Op;
-use risch_tables::Fault;
-use std::alloc::AllocError;
 
 /// Why a line is refused.
 #[derive(Clone, Copy)]
@@ -10,16 +8,6 @@ pub enum Halt {
     Cause(&'static str),
     /// No memory is left.
     Memory,
-}
-
-impl Halt {
-    /// The fault that a table tells.
-    pub fn fault(self) -> Fault {
-        match self {
-            Halt::Cause(text) => Fault::Cause(text),
-            Halt::Memory => Fault::Memory(AllocError),
-        }
-    }
 }
 
 /// The name of the overflow of an operation.

@@ -132,15 +132,11 @@ pub fn level(number: Option<Frac>) -> Result<u8, Halt>
 /// The exponent that a number stands for.
 pub fn exponent(number: Option<Frac>) -> Result<u16, Halt> {
     match whole(number) {
-        Some(number) => narrowed(number),
+        Some(number) => match u16::try_from(number) {
+            Ok(exponent) => Ok(exponent),
+            Err(_) => Err(Halt::Cause(NO_EXPONENT)),
+        },
         None => Err(Halt::Cause(NO_EXPONENT)),
-    }
-}
-
-fn narrowed(number: i128) -> Result<u16, Halt> {
-    match u16::try_from(number) {
-        Ok(exponent) => Ok(exponent),
-        Err(_) => Err(Halt::Cause(NO_EXPONENT)),
     }
 }
 
@@ -182,21 +178,16 @@ pub fn exponent_of(polynomial: &Poly) -> Result<u16, Halt> {
     }
 }
 
-// The coefficient at exponent 0.
-fn constant_term(alloc: Global, polynomial: &Poly) -> Result<Elem, AllocError> {
-    match polynomial.coefficient(0) {
-        Some(constant) => constant.copy(alloc),
-        None => Ok(Elem::num(Frac::new(0, 1))),
-    }
-}
-
 /// The element that a polynomial of degree at most 0 is.
 pub fn constant(alloc: Global, polynomial: &Poly) -> Result<Elem, Halt> {
     if !is_constant(polynomial) {
         return Err(Halt::Cause(NO_ELEMENT));
     }
-    match constant_term(alloc, polynomial) {
-        Ok(constant) => Ok(constant),
-        Err(_) => Err(Halt::Memory),
+    match polynomial.coefficient(0) {
+        Some(constant) => match constant.copy(alloc) {
+            Ok(constant) => Ok(constant),
+            Err(_) => Err(Halt::Memory),
+        },
+        None => Ok(Elem::num(Frac::new(0, 1))),
     }
 }

@@ -39,17 +39,13 @@ fn of_one(alloc: Global, call: &str, a: &Poly, values: &mut Values) {
 
 fn about(call: &str, a: &Poly, values: &mut Values) {
     match call {
-        "degree" => degree(a, values),
+        "degree" => match a.degree() {
+            Some(degree) => values.whole(u64::from(degree)),
+            None => values.name("none"),
+        },
         "weight" => values.whole(u64::from(a.weight())),
         "is_zero" => values.answer(a.is_zero()),
         _ => values.cause(NO_CALL),
-    }
-}
-
-fn degree(a: &Poly, values: &mut Values) {
-    match a.degree() {
-        Some(degree) => values.whole(u64::from(degree)),
-        None => values.name("none"),
     }
 }
 
@@ -101,15 +97,11 @@ fn scale(alloc: Global, a: &Poly, by: &Poly, values: &mut Values) {
 
 fn coefficient(alloc: Global, a: &Poly, at: &Poly, values: &mut Values) {
     match exponent_of(at) {
-        Ok(exponent) => coefficient_or_none(alloc, a.coefficient(exponent), values),
+        Ok(exponent) => match a.coefficient(exponent) {
+            Some(coefficient) => values.copied(coefficient.copy(alloc)),
+            None => values.name("none"),
+        },
         Err(halt) => values.refuse(halt),
-    }
-}
-
-fn coefficient_or_none(alloc: Global, coefficient: Option<&Elem>, values: &mut Values) {
-    match coefficient {
-        Some(coefficient) => values.copied(coefficient.copy(alloc)),
-        None => values.name("none"),
     }
 }
 

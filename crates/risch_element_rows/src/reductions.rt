@@ -105,35 +105,23 @@ pub fn canonical_parts(alloc: Global, tower: &Tower, a: &Elem, at: &Elem, values
 /// The order of an element at the variable of a level.
 pub fn order(alloc: Global, a: &Elem, at: &Elem, values: &mut Values) {
     match level(at.as_num()) {
-        Ok(level) => order_of(alloc, a, level, values),
+        Ok(level) => match order_at(alloc, level, a) {
+            Ok(order) => values.integer(order),
+            Err(_) => values.memory(),
+        },
         Err(halt) => values.refuse(halt),
-    }
-}
-
-fn order_of(alloc: Global, a: &Elem, level: u8, values: &mut Values)
-    requires { level < 5 }
-{
-    match order_at(alloc, level, a) {
-        Ok(order) => values.integer(order),
-        Err(_) => values.memory(),
     }
 }
 
 /// The value of an element of order 0.
 pub fn value(alloc: Global, a: &Elem, at: &Elem, values: &mut Values) {
     match level(at.as_num()) {
-        Ok(level) => value_of(alloc, a, level, values),
+        Ok(level) => match order_at(alloc, level, a) {
+            Ok(0) => values.formed(value_at(alloc, level, a)),
+            Ok(_) => values.cause("an element of another order than 0"),
+            Err(_) => values.memory(),
+        },
         Err(halt) => values.refuse(halt),
-    }
-}
-
-fn value_of(alloc: Global, a: &Elem, level: u8, values: &mut Values)
-    requires { level < 5 }
-{
-    match order_at(alloc, level, a) {
-        Ok(0) => values.formed(value_at(alloc, level, a)),
-        Ok(_) => values.cause("an element of another order than 0"),
-        Err(_) => values.memory(),
     }
 }
 
@@ -148,22 +136,10 @@ pub fn of_normal_part(
     values: &mut Values,
 ) {
     match exponent(most.as_num()) {
-        Ok(most) => of_level(alloc, tower, call, a, at, u64::from(most), values),
-        Err(halt) => values.refuse(halt),
-    }
-}
-
-fn of_level(
-    alloc: Global,
-    tower: &Tower,
-    call: &str,
-    a: &Elem,
-    at: &Elem,
-    most: u64,
-    values: &mut Values,
-) {
-    match tower_level_of(tower, a, at) {
-        Ok(level) => of_element(alloc, tower, call, level, a, most, values),
+        Ok(most) => match tower_level_of(tower, a, at) {
+            Ok(level) => of_element(alloc, tower, call, level, a, u64::from(most), values),
+            Err(halt) => values.refuse(halt),
+        },
         Err(halt) => values.refuse(halt),
     }
 }
@@ -181,30 +157,14 @@ fn of_element(
     requires within { Within (level + 1) a.now }
 {
     match canonical(alloc, tower, level, a) {
-        Run::Done(parts) => of_normal(alloc, tower, call, level, &parts.normal, most, values),
+        Run::Done(parts) => match call {
+            "hermite" => reduction(alloc, tower, level, &parts.normal, most, values),
+            "residues" => residues_of(alloc, tower, level, &parts.normal, most, values),
+            _ => values.cause(NO_CALL),
+        },
         Run::Stopped(stop) => values.stop(stop),
         Run::Left => values.left(),
         Run::Memory => values.memory(),
-    }
-}
-
-fn of_normal(
-    alloc: Global,
-    tower: &Tower,
-    call: &str,
-    level: u8,
-    normal: &Elem,
-    most: u64,
-    values: &mut Values,
-)
-    requires level { level ≤ length tower.now }
-    requires within { Within (level + 1) normal.now }
-    requires normal { HasNormalDivisors (level_derivation (monomials tower.now) level) (polynomial (denominator_at level normal.now)) }
-{
-    match call {
-        "hermite" => reduction(alloc, tower, level, normal, most, values),
-        "residues" => residues_of(alloc, tower, level, normal, most, values),
-        _ => values.cause(NO_CALL),
     }
 }
 

@@ -62,14 +62,10 @@ fn of(alloc: Global, operands: &[Poly], values: &mut Values) {
 
 fn of_least(alloc: Global, least: &Poly, count: &Poly, of: &[Poly], values: &mut Values) {
     match exponent_of(least) {
-        Ok(least) => of_count(alloc, least, count, of, values),
-        Err(halt) => values.refuse(halt),
-    }
-}
-
-fn of_count(alloc: Global, least: u16, count: &Poly, of: &[Poly], values: &mut Values) {
-    match exponent_of(count) {
-        Ok(count) => of_coefficients(alloc, least, usize::from(count), of, values),
+        Ok(least) => match exponent_of(count) {
+            Ok(count) => of_coefficients(alloc, least, usize::from(count), of, values),
+            Err(halt) => values.refuse(halt),
+        },
         Err(halt) => values.refuse(halt),
     }
 }
@@ -100,16 +96,14 @@ fn sequence(alloc: Global, least: u16, d: &PolyList, b: &PolyList, values: &mut 
     }
 }
 
+// The coefficients of each member, and where they end.
 fn members(alloc: Global, members: Result<Items<PolyList>, Fail>, values: &mut Values) {
     match members {
-        Ok(members) => each(alloc, members.as_slice(), values),
+        Ok(members) => {
+            for member in members.as_slice() {
+                values.polynomials(alloc, member.as_slice());
+            }
+        }
         Err(fail) => values.fail(fail),
-    }
-}
-
-// The coefficients of each member, and where they end.
-fn each(alloc: Global, members: &[PolyList], values: &mut Values) {
-    for member in members {
-        values.polynomials(alloc, member.as_slice());
     }
 }

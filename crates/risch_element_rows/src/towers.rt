@@ -33,7 +33,10 @@ pub fn play(alloc: Global, towers: &Towers, call: &str, operands: &str, values: 
 fn of(alloc: Global, towers: &Towers, call: &str, operands: &[Elem], values: &mut Values) {
     match operands {
         [] => of_none(towers, call, values),
-        [at] => of_one(alloc, &towers.tower, call, at, values),
+        [at] => match level(at.as_num()) {
+            Ok(level) => of_level(alloc, &towers.tower, call, level, values),
+            Err(halt) => values.refuse(halt),
+        },
         _ => values.cause(NO_CALL),
     }
 }
@@ -43,13 +46,6 @@ fn of_none(towers: &Towers, call: &str, values: &mut Values) {
         "height" => values.whole(u64::from(towers.tower.height())),
         "same" => values.answer(towers.tower.same(&towers.other)),
         _ => values.cause(NO_CALL),
-    }
-}
-
-fn of_one(alloc: Global, tower: &Tower, call: &str, at: &Elem, values: &mut Values) {
-    match level(at.as_num()) {
-        Ok(level) => of_level(alloc, tower, call, level, values),
-        Err(halt) => values.refuse(halt),
     }
 }
 
@@ -98,26 +94,20 @@ fn push_of(alloc: Global, tower: &mut Tower, kind: &str, argument: Elem, values:
 
 fn push_monomial(alloc: Global, tower: &mut Tower, monomial: Monomial, values: &mut Values) {
     if monomial.argument().is_within(tower.height() + 1) {
-        is_pushed(tower.push(alloc, monomial), values)
+        pushed_or_refused(tower.push(alloc, monomial), values)
     } else {
         values.cause("an element that does not lie in the tower")
     }
 }
 
-fn is_pushed(pushed: Result<(), PushFault>, values: &mut Values) {
+fn pushed_or_refused(pushed: Result<(), PushFault>, values: &mut Values) {
     match pushed {
         Ok(()) => {}
-        Err(fault) => refused(fault, values),
-    }
-}
-
-fn refused(fault: PushFault, values: &mut Values) {
-    match fault {
-        PushFault::TooHigh => values.name("too-high"),
-        PushFault::ZeroArgument => values.name("zero-argument"),
-        PushFault::ConstantArgument => values.name("constant-argument"),
-        PushFault::Overflow(op) => values.name(name_of(op)),
-        PushFault::Size => values.name("size"),
-        PushFault::Memory => values.memory(),
+        Err(PushFault::TooHigh) => values.name("too-high"),
+        Err(PushFault::ZeroArgument) => values.name("zero-argument"),
+        Err(PushFault::ConstantArgument) => values.name("constant-argument"),
+        Err(PushFault::Overflow(op)) => values.name(name_of(op)),
+        Err(PushFault::Size) => values.name("size"),
+        Err(PushFault::Memory) => values.memory(),
     }
 }

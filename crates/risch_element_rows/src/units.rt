@@ -8,14 +8,10 @@ use std::num::ParseIntError;
 pub fn play(operands: &str, values: &mut Values) -> Result<(), ParseIntError> {
     let (most, calls) = first_word(operands);
     match most.parse() {
-        Ok(most) => of_most(most, calls, values),
-        Err(error) => Err(error),
-    }
-}
-
-fn of_most(most: u64, calls: &str, values: &mut Values) -> Result<(), ParseIntError> {
-    match calls.parse() {
-        Ok(calls) => Ok(count(most, calls, values)),
+        Ok(most) => match calls.parse() {
+            Ok(calls) => Ok(count(most, calls, values)),
+            Err(error) => Err(error),
+        },
         Err(error) => Err(error),
     }
 }

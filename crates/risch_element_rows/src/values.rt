@@ -136,7 +136,8 @@ impl Values {
     pub fn refusal(&mut self) -> Result<(), Fault> {
         match self.halt.take() {
             None => Ok(()),
-            Some(halt) => Err(halt.fault()),
+            Some(Halt::Cause(text)) => Err(Fault::Cause(text)),
+            Some(Halt::Memory) => Err(Fault::Memory(AllocError)),
         }
     }
 
@@ -174,14 +175,12 @@ impl Values {
             Stop::Overflow(op) => self.name(name_of(op)),
             Stop::Size => self.name("size"),
             Stop::Case(_) => self.name("case"),
-            Stop::NotSound(constant) => self.not_sound(constant),
+            Stop::NotSound(constant) => {
+                self.name("not-sound");
+                self.element(constant)
+            }
             Stop::Budget => self.name("budget"),
         }
-    }
-
-    fn not_sound(&mut self, constant: Elem) {
-        self.name("not-sound");
-        self.element(constant)
     }
 
     /// An element, or the stop of its call.
@@ -276,17 +275,14 @@ impl Values {
         }
     }
 
-    /// Elements.
-    fn elements(&mut self, alloc: Global, elements: &[Elem]) {
-        for element in elements {
-            self.copied(element.copy(alloc));
-        }
-    }
-
     /// Elements, or the stop of their call.
     pub fn formed_elements(&mut self, alloc: Global, elements: Result<ElemList, Fail>) {
         match elements {
-            Ok(elements) => self.elements(alloc, elements.as_slice()),
+            Ok(elements) => {
+                for element in elements.as_slice() {
+                    self.copied(element.copy(alloc));
+                }
+            }
             Err(fail) => self.fail(fail),
         }
     }
@@ -336,14 +332,12 @@ impl Values {
 
     fn copied_canonical(&mut self, parts: Result<Canonical, AllocError>) {
         match parts {
-            Ok(parts) => self.two(parts.reduced, parts.normal),
+            Ok(parts) => {
+                self.element(parts.reduced);
+                self.element(parts.normal)
+            }
             Err(_) => self.memory(),
         }
-    }
-
-    fn two(&mut self, first: Elem, second: Elem) {
-        self.element(first);
-        self.element(second)
     }
 
     /// The three elements of a reduction, or how its run ends.
@@ -358,14 +352,13 @@ impl Values {
 
     fn copied_reduction(&mut self, reduction: Result<Hermite, AllocError>) {
         match reduction {
-            Ok(reduction) => self.three(reduction.g, reduction.h, reduction.rest),
+            Ok(reduction) => {
+                self.element(reduction.g);
+                self.element(reduction.h);
+                self.element(reduction.rest)
+            }
             Err(_) => self.memory(),
         }
-    }
-
-    fn three(&mut self, first: Elem, second: Elem, third: Elem) {
-        self.two(first, second);
-        self.element(third)
     }
 
     /// What the residues are, or how their run ends.
@@ -382,7 +375,10 @@ impl Values {
     fn residues_of(&mut self, alloc: Global, residues: &Residues) {
         match residues {
             Residues::Constant { logs, trace } => self.constant(alloc, logs.as_slice(), *trace),
-            Residues::NotConstant { power, trace } => self.not_constant(alloc, *power, trace),
+            Residues::NotConstant { power, trace } => {
+                self.whole(u64::from(*power));
+                self.copied(trace.copy(alloc))
+            }
         }
     }
 
@@ -391,11 +387,6 @@ impl Values {
             self.logarithm(alloc, logarithm);
         }
         self.number(sum)
-    }
-
-    fn not_constant(&mut self, alloc: Global, power: u16, trace: &Elem) {
-        self.whole(u64::from(power));
-        self.copied(trace.copy(alloc))
     }
 
     fn logarithm(&mut self, alloc: Global, logarithm: &LogPart) {
