@@ -24,13 +24,14 @@ ghost use Rattle.risch_residue.specs.ResiduesMeaning.{IfConstant, IfNotConstant,
 use crate::logarithm::fraction;
 use crate::logarithms::logarithms;
 use crate::outcome::Residues;
-use crate::setting::{all_normal, setting};
+use crate::setting::setting;
 use risch_elem::{Elem, Fail, Run, Units};
 use risch_field::Arith;
 use risch_frac::Frac;
 use risch_residue_traces::{Traces, residue_traces};
 use risch_run::{Ended, answer, result_of};
 use risch_tower::Tower;
+use risch_trace::elements::all_normal;
 use std::alloc::Global;
 
 /// The fraction that the first trace is.

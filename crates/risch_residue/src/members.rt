@@ -28,7 +28,7 @@ pub(crate) fn coefficient(alloc: Global, of: &[Elem], exponent: usize) -> Result
     ensures { IfOk result (λ it. it ≡ poly.coefficient element of.now exponent) }
 {
     match of.get(exponent) {
-        Some(coefficient) => Ok(coefficient.copy(alloc)?),
+        Some(coefficient) => coefficient.copy(alloc),
         None => Ok(Elem::zero()),
     }
 }
@@ -40,7 +40,7 @@ fn constant_in_z(alloc: Global, of: &Elem) -> Result<Inner, AllocError>
     if of.is_zero() {
         return Ok(Inner::zero(alloc));
     }
-    Ok(Inner::constant(alloc, of.copy(alloc)?)?)
+    Inner::constant(alloc, of.copy(alloc)?)
 }
 
 /// The coefficients as polynomials in z.

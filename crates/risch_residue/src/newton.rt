@@ -17,9 +17,9 @@ fn signed(alloc: Global, minus: bool, of: &Elem) -> Result<Elem, AllocError>
     ensures { IfOk result (λ it. it ≡ poly.signed element minus of.now) }
 {
     if minus {
-        Ok(of.neg(alloc)?)
+        of.neg(alloc)
     } else {
-        Ok(of.copy(alloc)?)
+        of.copy(alloc)
     }
 }
 

@@ -1,10 +1,9 @@
-//! What is known of an element of a level, of its tower, and of the traces of its residues.
+//! What is known of an element of a level and of its tower.
 
 ghost use Rattle.std.specs.Prelude.{◌≤◌, ◌<◌, ◌+◌, length};
 ghost use Rattle.risch_univariate.specs.SplittingFactorization.{IsNormal};
 ghost use Rattle.risch_mean.specs.ElementField.{elements};
-ghost use Rattle.risch_polynomial_theory.specs.Meaning.{AllValid};
-ghost use Rattle.risch_element_theory.specs.WholeTower.{IsElement, polynomial, Within};
+ghost use Rattle.risch_element_theory.specs.WholeTower.{polynomial, Within};
 ghost use Rattle.risch_tower.specs.TowerMeaning.{monomials, AreTower};
 ghost use Rattle.risch_monomial.specs.LevelDerivation.{level_derivation};
 ghost use Rattle.risch_monomial.specs.LevelElements.{numerator_at, denominator_at};
@@ -13,15 +12,6 @@ ghost use Rattle.risch_logarithm_link.proofs.ResidueSetting.{IsSetting};
 use risch_elem::Elem;
 use risch_monomial::level_of;
 use risch_tower::Tower;
-
-/// Each element of a list is in normal form.
-pub(crate) fn all_normal(elements: &[Elem])
-    ensures { AllValid IsElement elements.now }
-{
-    for element in elements {
-        let _nest = element.nest();
-    }
-}
 
 /// The levels of a tower have the rates of its monomials.
 fn are_levels(tower: &Tower)
