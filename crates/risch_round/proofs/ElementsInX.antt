@@ -1,6 +1,6 @@
 -- Polynomials in x as elements and back: what the coefficients of an element stand for, and that an element is formed of its coefficients with no stop.
-use Rattle.std.specs.Prelude.{nat_le, if◌then◌else◌, map, None, Some}
-use Rattle.std.proofs.Common.{◌≡◌, ℕ, suc, ◌+◌, ◌≤◌, Bool, true, false, List, [], ◌∷◌, length, Ok, refl, sym, ◌∙◌, ap, subst, arith}
+use Rattle.std.specs.Prelude.{nat_le, if◌then◌else◌, map, None, Some, IfOk}
+use Rattle.std.proofs.Common.{◌≡◌, ℕ, suc, ◌+◌, ◌≤◌, Bool, true, false, List, [], ◌∷◌, length, Result, Ok, Err, refl, sym, ◌∙◌, ap, subst, arith}
 use Rattle.std.proofs.lemmas.Bool.{cond_both, le-leb, leb-true}
 use Rattle.risch_ring.specs.CommRing.{quotient}
 use Rattle.risch_ring.proofs.Expression.{reading}
@@ -12,7 +12,7 @@ use Rattle.risch_mean.specs.ElementField.{elements}
 use Rattle.risch_mean.specs.ElementFieldLaws.{mul-one, one-ne-zero}
 use Rattle.risch_mean.specs.ElementLaws.{over-mul}
 use Rattle.risch_frac.specs.declared.Op.{Op}
-use Rattle.risch_field.specs.Checked.{Checked, map_ok, IsStopOf}
+use Rattle.risch_field.specs.Checked.{Checked, map_ok, Agrees, IsStopOf}
 use Rattle.risch_field.specs.declared.Fail.{Fail}
 use Rattle.risch_field.specs.declared.Fail.TheVariants.{Overflow, Size}
 use Rattle.risch_field.specs.Ground.{ground}
@@ -218,3 +218,12 @@ no_overflow stop rule a is e h = let both = sym is ∙ (rw e at h) in cc
 
 pub no_size : {A : Type 0} (stop : Fail) (rule : Checked A) (a : A) → rule ≡ Ok a → stop ≡ Size → IsStopOf stop rule → ⊥
 no_size stop rule a is e h = let both = sym is ∙ (rw e at h) in cc
+
+-- an element that is formed, or want of memory
+pub formed-is : {E : Type 0} (of : Checked Element) (result : Result Element E) (e : Element) → Agrees of (Ok e) → IfOk result (λ it. of ≡ Ok it) → IfOk result (λ it. it ≡ e)
+formed-is of (Ok it) e h is = let same : Ok e ≡ Ok it = rw is at h in cc
+formed-is of (Err x) e h is = tt
+
+pub formed-if : {E : Type 0} (of : Checked Element) (result : Result Element E) (P : Element → Type 0) → IfOk of P → IfOk result (λ it. of ≡ Ok it) → IfOk result P
+formed-if of (Ok it) P h is = rw is at h
+formed-if of (Err x) P h is = tt

@@ -26,6 +26,10 @@ map_more f (y ∷ xs) (suc i) x h is =
 pub map_all : {A B : Type 0} (f : A → B) (xs : List A) (i : ℕ) → length xs ≤ i → map f (take i xs) ≡ map f xs
 map_all f xs i h = ap (map f) (take_all i xs h)
 
+pub map_pushed : {A B : Type 0} (f : A → B) (xs : List A) (i : ℕ) (before next : List B) {x : A} {r : B} → before ≡ map f (take i xs) → i < length xs → x ≡ get_or xs i x → r ≡ f x → next ≡ before ++ r ∷ [] →
+    next ≡ map f (take (i + 1) xs)
+map_pushed f xs i before next {x} so_far below is r_is pushed = pushed ∙ rw (so_far, r_is) (sym (map_more f xs i x below is))
+
 -- ---- one number
 zero-number : (h : ℕ) (q : Fraction) → (field h).is_zero (number h q) ≡ ground.is_zero q
 zero-number zero q = refl

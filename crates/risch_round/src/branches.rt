@@ -1,7 +1,6 @@
 //! The branches of a round at x.
 
 ghost use Rattle.std.specs.Prelude.{◌≡◌, IsFalse, IfOk};
-ghost use Rattle.risch_field.specs.Checked.{Agrees};
 ghost use Rattle.risch_level.specs.Levels.{element};
 ghost use Rattle.risch_element_theory.specs.WholeTower.{Within};
 ghost use Rattle.risch_run.specs.Ruled.{IsResult, formed};
@@ -15,7 +14,7 @@ use crate::halted::{HaltFault, in_step};
 use crate::preparation::{Prepared, prepare};
 use crate::procedure::{BranchFault, branch};
 use risch_cert::Place;
-use risch_elem::{Elem, Fail};
+use risch_elem::Elem;
 use risch_frac::Frac;
 use risch_polynomial::Poly;
 use risch_residue::Residues;
@@ -76,20 +75,7 @@ fn polynomial_number(h: &Elem) -> u32
 }
 
 /// g and the piece of the polynomial branch as one part, with the logarithms.
-#[tactic(auto, using(risch_field::proofs::CheckedSteps::stop_passes, risch_field::proofs::CheckedSteps::value_passes), unfolding(crate::specs::RationalFunctions::gathered))]
-fn gather(alloc: Global, g: &Elem, logs: LogList, piece: &Poly<Frac>) -> Result<Integral, Fail>
-    requires { Within 1 g.now }
-    ensures rule { Agrees result (spec.gathered g.now logs piece.now) }
-    ensures within { IfOk result (λ it. Within 1 it.part) }
-    ensures logs { IfOk result (λ it. it.logs ≡ logs) }
-{
-    let piece = element_of(alloc, piece)?;
-    let part = g.add(alloc, &piece)?;
-    Ok(Integral { part, logs })
-}
-
-/// The same as a result of a run.
-#[tactic(auto, using(risch_run::proofs::RuledSteps::steps))]
+#[tactic(auto, unfolding(crate::specs::RationalFunctions::gathered))]
 fn gathered(
     alloc: Global,
     tower: &Tower,
@@ -102,7 +88,9 @@ fn gathered(
     ensures rule { IsResult result (formed (spec.gathered g.now logs piece.now)) }
     ensures formed { IfOk result (IsFormed tower.now) }
 {
-    Ok(gather(alloc, g, logs, piece)?)
+    let piece = element_of(alloc, piece)?;
+    let part = g.add(alloc, &piece)?;
+    Ok(Integral { part, logs })
 }
 
 /// The branches of a round, and what they give. The stop of the residues is the least whatever the polynomial branch gives.

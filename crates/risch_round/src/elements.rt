@@ -1,8 +1,10 @@
 //! Polynomials in x over the fractions, as elements of the tower and back.
-ghost use Rattle.std.specs.Prelude.{◌≡◌, ◌≤◌, length, map, IfOk, IfSome};
+ghost use Rattle.std.specs.Prelude.{◌≡◌, ◌≤◌, length, map, IfOk, IfSome, Ok};
+ghost use Rattle.risch_field.specs.Checked.{Agrees};
 ghost use Rattle.risch_field.specs.Ground.{ground};
 ghost use Rattle.risch_polynomial.specs.Poly as poly;
 ghost use Rattle.risch_level.specs.Accessors.{number};
+ghost use Rattle.risch_level.specs.Levels.{Element};
 ghost use Rattle.risch_element_theory.specs.WholeTower.{Within};
 ghost use Rattle.risch_round.specs.Elements as spec;
 ghost use Rattle.risch_round.specs.Meaning.{IsPolynomialInX};
@@ -25,7 +27,6 @@ fn fraction_of(element: &Nest) -> Frac
 }
 
 /// The same of each element of a list.
-#[tactic(auto, using(crate::proofs::Numbers::map_more, crate::proofs::Numbers::map_all))]
 fn fractions(alloc: Global, elements: &[Nest]) -> Result<Vec<Frac>, AllocError>
     ensures { IfOk result (λ it. it.items ≡ map spec.fraction_of elements.now) }
 {
@@ -54,7 +55,6 @@ pub fn coefficients(alloc: Global, element: &Elem) -> Result<Option<Poly<Frac>>,
 }
 
 /// The fractions as elements.
-#[tactic(auto, using(crate::proofs::Numbers::map_more, crate::proofs::Numbers::map_all))]
 fn numbers(alloc: Global, fractions: &[Frac]) -> Result<ElemList, AllocError>
     ensures { IfOk result (λ it. it ≡ map (number 5) fractions.now) }
 {
@@ -77,6 +77,19 @@ fn over_elements(alloc: Global, fractions: &[Frac]) -> Result<risch_elem::Poly, 
     risch_elem::Poly::of(numbers)
 }
 
+/// The element that a rule forms, for which memory alone may be wanting.
+fn formed(of: Result<Elem, Fail>) -> Result<Elem, AllocError>
+    requires { (element : Element) × Agrees of (Ok element) }
+    ensures { IfOk result (λ it. of ≡ Ok it) }
+{
+    match of {
+        Ok(element) => Ok(element),
+        Err(Fail::Memory) => Err(AllocError),
+        Err(Fail::Overflow(_)) => unreachable!(),
+        Err(Fail::Size) => unreachable!(),
+    }
+}
+
 /// The element p_0 + p_1·x + ..
 ///
 /// `Err` for want of memory alone.
@@ -87,10 +100,5 @@ pub fn element_of(alloc: Global, polynomial: &Poly<Frac>) -> Result<Elem, AllocE
     let _weight = polynomial.kept_weight();
     let numerator = over_elements(alloc, polynomial.coefficients())?;
     let denominator = over_elements(alloc, &[Frac::one()])?;
-    match Elem::quotient(alloc, 0, &numerator, &denominator) {
-        Ok(element) => Ok(element),
-        Err(Fail::Memory) => Err(AllocError),
-        Err(Fail::Overflow(_)) => unreachable!(),
-        Err(Fail::Size) => unreachable!(),
-    }
+    formed(Elem::quotient(alloc, 0, &numerator, &denominator))
 }

@@ -1,13 +1,12 @@
 //! The preparation of a round at x.
 
 ghost use Rattle.std.specs.Prelude.{IsFalse, IfOk};
-ghost use Rattle.risch_field.specs.Checked.{Agrees};
 ghost use Rattle.risch_element_theory.specs.WholeTower.{polynomial, Within};
 ghost use Rattle.risch_tower.specs.TowerMeaning.{monomials};
 ghost use Rattle.risch_monomial.specs.LevelDerivation.{level_derivation};
 ghost use Rattle.risch_monomial.specs.LevelElements.{denominator_at};
 ghost use Rattle.risch_monomial.specs.NormalPolynomials.{HasNormalDivisors};
-ghost use Rattle.risch_run.specs.Ruled.{IsResult};
+ghost use Rattle.risch_run.specs.Ruled.{IsResult, formed};
 ghost use Rattle.risch_hermite.specs.HermiteMeaning.{IsHermiteReduction};
 ghost use Rattle.risch_split.specs.Canonical.{canonical as canonical_rule};
 ghost use Rattle.risch_split.specs.SplittingMeaning.{AreCanonicalParts};
@@ -15,7 +14,7 @@ ghost use Rattle.risch_round.specs.RationalFunctions as spec;
 ghost use Rattle.risch_round.specs.AnswerMeaning.{IsPrepared, IsSimple};
 
 use crate::budgets::hermite_within;
-use risch_elem::{Elem, Fail};
+use risch_elem::Elem;
 use risch_field::Arith;
 use risch_hermite::Hermite;
 use risch_run::{Ended, result_of};
@@ -35,26 +34,23 @@ pub(crate) struct Prepared {
 }
 
 /// The reduction with r = reduced + rest.
-#[tactic(auto, using(risch_field::proofs::CheckedSteps::stop_passes, risch_field::proofs::CheckedSteps::value_passes, crate::proofs::PreparationSteps::is_prepared), unfolding(crate::specs::RationalFunctions::with_rest))]
+#[tactic(auto, using(crate::proofs::PreparationSteps::is_prepared), unfolding(crate::specs::RationalFunctions::with_rest))]
 fn with_rest(
     alloc: Global,
     tower: &Tower,
     normal: &Elem,
     reduced: &Elem,
     reduction: Hermite,
-) -> Result<Prepared, Fail>
+) -> Result<Prepared, Ended>
     requires reduced { Within 1 reduced.now }
     requires meaning { IsHermiteReduction tower.now 0 normal.now reduction }
     requires within { Within 1 reduction.g × Within 1 reduction.h × Within 1 reduction.rest }
-    ensures rule { Agrees result (spec.with_rest reduced.now reduction) }
+    ensures rule { IsResult result (formed (spec.with_rest reduced.now reduction)) }
     ensures prepared { IfOk result (IsPrepared tower.now) }
 {
-    let r = reduced.add(alloc, &reduction.rest)?;
-    Ok(Prepared {
-        g: reduction.g,
-        h: reduction.h,
-        r,
-    })
+    let Hermite { g, h, rest } = reduction;
+    let r = reduced.add(alloc, &rest)?;
+    Ok(Prepared { g, h, r })
 }
 
 /// The canonical parts of f with the Hermite reduction of the normal part, where it is not 0.
@@ -71,15 +67,16 @@ fn prepare_parts(
     ensures rule { IsResult result (spec.prepared_by tower.now budget parts) }
     ensures prepared { IfOk result (IsPrepared tower.now) }
 {
-    if parts.normal.is_zero() {
+    let Canonical { reduced, normal } = parts;
+    if normal.is_zero() {
         return Ok(Prepared {
             g: Elem::zero(),
             h: Elem::zero(),
-            r: parts.reduced,
+            r: reduced,
         });
     }
-    let reduction = hermite_within(alloc, tower, &parts.normal, budget)?;
-    Ok(with_rest(alloc, tower, &parts.normal, &parts.reduced, reduction)?)
+    let reduction = hermite_within(alloc, tower, &normal, budget)?;
+    with_rest(alloc, tower, &normal, &reduced, reduction)
 }
 
 /// The canonical parts of f.

@@ -99,7 +99,6 @@ fn compared(
 }
 
 /// The sum of the integrals of the terms, from the highest exponent down.
-#[tactic(auto, using(crate::proofs::Pieces::terms_begin, crate::proofs::Pieces::term_zero, crate::proofs::Pieces::terms_budget, crate::proofs::Pieces::terms_stop, crate::proofs::Pieces::terms_more, crate::proofs::Pieces::terms_done))]
 pub fn branch(alloc: Global, budget: u64, integrand: &Poly<Frac>) -> Result<Poly<Frac>, BranchFault>
     ensures { Answers result (spec.branch budget integrand.now) }
 {

@@ -1,14 +1,16 @@
 use Rattle.std.specs.Prelude.{map}
-use Rattle.std.proofs.Common.{◌≡◌, ◌≤◌, List, [], ◌∷◌, length, Ok, refl, sym, ◌∙◌, ap, ap₂, arith}
+use Rattle.std.proofs.Common.{◌≡◌, ◌≤◌, List, [], ◌∷◌, length, Ok, refl, ◌∙◌, ap, ap₂, subst, arith}
 use Rattle.risch_frac.specs.Fraction.{Fraction}
+use Rattle.risch_field.specs.Checked.{Agrees}
 use Rattle.risch_field.specs.Ground.{ground}
 use Rattle.risch_level.specs.Levels.{Element}
 use Rattle.risch_level.specs.Accessors.{number}
 use Rattle.risch_level.specs.Parts.{levels}
 use Rattle.risch_polynomial.specs.Poly as poly
+use Rattle.risch_element_theory.specs.WholeTower.{Within}
 use Rattle.risch_round.specs.Elements.{element_of}
 use Rattle.risch_round.proofs.Numbers.{elements-within}
-use Rattle.risch_round.proofs.ElementsInX.{element-formed, no_overflow, no_size}
+use Rattle.risch_round.proofs.ElementsInX.{element-formed, formed-is, formed-if}
 use Rattle.risch_round.proofs.elements.element_of.Goals as goal
 
 pub over_elements-requires-clause-ends_not_zero : goal.over_elements-requires-clause-ends_not_zero
@@ -35,24 +37,21 @@ quotient-formed : (n d : List Element) (q r : List Fraction) (one : Fraction) �
 quotient-formed n d q r one same one_is n_is d_is ends small =
     ap₂ (λ a b. (levels 5).quotient 4 a b) (n_is ∙ ap (map (number 5)) same) (d_is ∙ ap (λ e. map (number 5) (e ∷ [])) one_is) ∙ element-formed r ends small
 
-pub returns-in-Ok-clause-value : goal.returns-in-Ok-clause-value
-returns-in-Ok-clause-value c =
-    let formed =
-    quotient-formed c.in_ok-numerator.numerator c.in_ok-denominator.denominator c.coefficients.result.now c.args.polynomial.now c.one.result c.coefficients.ensures.value c.one.ensures.value
-    c.in_ok-numerator.ensures c.in_ok-denominator.ensures c.kept_weight-weight.ensures.ends_not_zero c.kept_weight-weight.ensures.degree_small in
-    let same : Ok c.in-Ok.element ≡ Ok (element_of c.args.polynomial.now) = sym c.in-Ok.ensures.rule ∙ formed in
-    cc
+pub formed-requires : goal.formed-requires
+formed-requires c = (
+  element_of c.args.polynomial.now,
+  subst (λ rule. Agrees c.quotient.result rule)
+  (quotient-formed c.in_ok-numerator.numerator c.in_ok-denominator.denominator c.coefficients.result.now c.args.polynomial.now c.one.result c.coefficients.ensures.value c.one.ensures.value
+  c.in_ok-numerator.ensures c.in_ok-denominator.ensures c.kept_weight-weight.ensures.ends_not_zero c.kept_weight-weight.ensures.degree_small)
+  c.quotient.ensures.rule,
+)
 
-pub unreachable-requires : goal.unreachable-requires
-unreachable-requires c =
-    let formed =
-    quotient-formed c.in_ok-numerator.numerator c.in_ok-denominator.denominator c.coefficients.result.now c.args.polynomial.now c.one.result c.coefficients.ensures.value c.one.ensures.value
-    c.in_ok-numerator.ensures c.in_ok-denominator.ensures c.kept_weight-weight.ensures.ends_not_zero c.kept_weight-weight.ensures.degree_small in
-    no_overflow _ _ (element_of c.args.polynomial.now) formed c.in-Err-Overflow.field-0-is c.in-Err-Overflow.ensures.rule
+pub returns-clause-value : goal.returns-clause-value
+returns-clause-value c = formed-is c.quotient.result c.formed.result (element_of c.args.polynomial.now)
+  (subst (λ rule. Agrees c.quotient.result rule)
+  (quotient-formed c.in_ok-numerator.numerator c.in_ok-denominator.denominator c.coefficients.result.now c.args.polynomial.now c.one.result c.coefficients.ensures.value c.one.ensures.value
+  c.in_ok-numerator.ensures c.in_ok-denominator.ensures c.kept_weight-weight.ensures.ends_not_zero c.kept_weight-weight.ensures.degree_small)
+  c.quotient.ensures.rule) c.formed.ensures
 
-pub unreachable-requires-in-Err-Size : goal.unreachable-requires-in-Err-Size
-unreachable-requires-in-Err-Size c =
-    let formed =
-    quotient-formed c.in_ok-numerator.numerator c.in_ok-denominator.denominator c.coefficients.result.now c.args.polynomial.now c.one.result c.coefficients.ensures.value c.one.ensures.value
-    c.in_ok-numerator.ensures c.in_ok-denominator.ensures c.kept_weight-weight.ensures.ends_not_zero c.kept_weight-weight.ensures.degree_small in
-    no_size _ _ (element_of c.args.polynomial.now) formed c.in-Err-Size.field-0-is c.in-Err-Size.ensures.rule
+pub returns-clause-within : goal.returns-clause-within
+returns-clause-within c = formed-if c.quotient.result c.formed.result (Within 1) c.quotient.ensures.within c.formed.ensures
