@@ -2,7 +2,6 @@
 pub mod Numbers
 pub mod ElementsInX
 -- The procedure for polynomials.
-pub mod Pieces
 pub mod Unlimited
 pub mod ProcedureMeaning
 pub mod SmallQuotients

@@ -1,6 +1,6 @@
 -- The integral of a polynomial f in x: the round of the procedure at x, where f has no simple part. x is primitive with the derivative 1, so the equation that is asked for a coefficient c
 -- is Dy = c - λ on the ground, whose first solution is λ = c, y = 0.
-use Rattle.std.specs.Prelude.{ℕ, zero, suc, ◌+◌, ◌-◌, nat_lt, if◌then◌else◌, List, [], length, Result, Ok, Err}
+use Rattle.std.specs.Prelude.{◌≡◌, ℕ, zero, suc, ◌+◌, ◌-◌, nat_lt, if◌then◌else◌, List, [], length, Result, Ok, Err}
 use Rattle.risch_frac.specs.Fraction.{Fraction, is_zero}
 use Rattle.risch_field.specs.Checked.{Checked, and_then}
 use Rattle.risch_field.specs.Ground.{ground}
@@ -64,6 +64,12 @@ part_alone part = record { part = element_of part; logs = [] }
 -- a stop at a step
 abbrev pub stopped_in : Place → Stop → Answer
 stopped_in place stop = Stopped (record { stop = stop; place = place })
+
+-- the answer where a value of the final check cannot be formed; for want of memory there is none
+abbrev pub IsUnchecked : Fail → Answer → Type 0
+IsUnchecked (fail.Overflow op) it = it ≡ stopped_in Checking (Overflow op)
+IsUnchecked fail.Size it = it ≡ stopped_in Checking Size
+IsUnchecked fail.Memory it = ⊥
 
 -- the final check: the derivative of the part is the integrand
 abbrev pub compared : List Fraction → List Fraction → List Fraction → Answer

@@ -4,6 +4,7 @@ ghost use Rattle.std.specs.Prelude.{◌≡◌, ◌≤◌, [], List, IfOk};
 ghost use Rattle.risch_mean.specs.Answer.{HasDerivative};
 ghost use Rattle.risch_level.specs.Accessors as accessors;
 ghost use Rattle.risch_element_theory.specs.WholeTower.{meaning, Within};
+ghost use Rattle.risch_cert.specs.declared.answer.Answer.TheVariants.{Disagree};
 ghost use Rattle.risch_tower.specs.declared.level.Level.{Level};
 ghost use Rattle.risch_tower.specs.Tower.{derivative};
 ghost use Rattle.risch_tower.specs.TowerMeaning.{monomials};
@@ -16,12 +17,23 @@ use crate::branches::round;
 use crate::elements::coefficients;
 use crate::halted::HaltFault;
 use crate::procedure;
-use crate::procedure::stopped_in;
-use risch_cert::{Answer, Place};
-use risch_elem::{Elem, Fail, Stop};
+use crate::procedure::unchecked;
+use risch_cert::Answer;
+use risch_elem::Elem;
 use risch_rootsum::{Integral, derive_integral};
 use risch_tower::Tower;
 use std::alloc::{AllocError, Global};
+
+/// The derivative beside the integrand.
+fn told_apart(alloc: Global, derivative: Elem, integrand: &Elem) -> Result<Answer, AllocError>
+    ensures { IfOk result (λ it. it ≡ Disagree derivative integrand.now) }
+{
+    let right = integrand.copy(alloc)?;
+    Ok(Answer::Disagree {
+        left: derivative,
+        right,
+    })
+}
 
 /// The integral, if this derivative of it is the integrand.
 fn compared(
@@ -37,11 +49,7 @@ fn compared(
     if derivative.same(integrand) {
         return Ok(Answer::Integral(integral));
     }
-    let right = integrand.copy(alloc)?;
-    Ok(Answer::Disagree {
-        left: derivative,
-        right,
-    })
+    told_apart(alloc, derivative, integrand)
 }
 
 /// The integral, if its derivative is the integrand.
@@ -61,9 +69,7 @@ fn checked(
     let _part = integral.part.nest();
     match derive_integral(alloc, tower, &integral) {
         Ok(derivative) => compared(alloc, integrand, integral, derivative),
-        Err(Fail::Overflow(op)) => Ok(stopped_in(Place::Checking, Stop::Overflow(op))),
-        Err(Fail::Size) => Ok(stopped_in(Place::Checking, Stop::Size)),
-        Err(Fail::Memory) => Err(AllocError),
+        Err(stop) => unchecked(stop),
     }
 }
 

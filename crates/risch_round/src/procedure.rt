@@ -60,6 +60,17 @@ pub fn stopped_in(place: Place, stop: Stop) -> Answer
     Answer::Stopped(Halt { stop, place })
 }
 
+/// The answer where a value of the final check cannot be formed.
+pub(crate) fn unchecked(stop: Fail) -> Result<Answer, AllocError>
+    ensures { IfOk result (spec.IsUnchecked stop) }
+{
+    match stop {
+        Fail::Overflow(op) => Ok(stopped_in(Place::Checking, Stop::Overflow(op))),
+        Fail::Size => Ok(stopped_in(Place::Checking, Stop::Size)),
+        Fail::Memory => Err(AllocError),
+    }
+}
+
 /// The part as an integral, if its derivative is the integrand.
 fn checked(alloc: Global, integrand: &Poly<Frac>, part: &Poly<Frac>) -> Result<Answer, AllocError>
     ensures rule { IfOk result (λ answer. answer ≡ spec.checked integrand.now part.now (poly.partial ground part.now)) }
@@ -67,9 +78,7 @@ fn checked(alloc: Global, integrand: &Poly<Frac>, part: &Poly<Frac>) -> Result<A
 {
     match part.partial(alloc) {
         Ok(derivative) => compared(alloc, integrand, part, &derivative),
-        Err(Fail::Overflow(op)) => Ok(stopped_in(Place::Checking, Stop::Overflow(op))),
-        Err(Fail::Size) => Ok(stopped_in(Place::Checking, Stop::Size)),
-        Err(Fail::Memory) => Err(AllocError),
+        Err(stop) => unchecked(stop),
     }
 }
 
