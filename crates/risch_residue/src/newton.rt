@@ -16,11 +16,7 @@ use std::alloc::{AllocError, Global};
 fn signed(alloc: Global, minus: bool, of: &Elem) -> Result<Elem, AllocError>
     ensures { IfOk result (λ it. it ≡ poly.signed element minus of.now) }
 {
-    if minus {
-        of.neg(alloc)
-    } else {
-        of.copy(alloc)
-    }
+    if minus { of.neg(alloc) } else { of.copy(alloc) }
 }
 
 /// e·p, or -e·p.

@@ -4,25 +4,34 @@
 --     differences_end      the rest of the longer polynomial
 --     leading-is, divisors_more, divisors_stop      the content
 --     left-is, left_stops, right_stops, step_formed, pseudo_steps-more, pseudo_steps_stop      the pseudo-division
---     sequence_small, sequence_over, sequence_zero, sequence_kept, remainder_stops, part_stops      the sequence
-use Rattle.std.specs.Prelude.{nat_le, replicate}
+--     sequence_over, sequence_stops, sequence_ends, sequence_kept      the sequence
+use Rattle.std.specs.Prelude.{nat_le, replicate, if◌then◌else◌, IfOk, Option, None, Some}
 use Rattle.std.specs.Result.{IsErrAnd}
-use Rattle.std.proofs.Common.{◌≡◌, refl, sym, ap, ◌∙◌, ℕ, zero, suc, ◌+◌, ◌-◌, ◌≤◌, ◌<◌, min, leb, Bool, true, false, List, [], ◌∷◌, ◌++◌, map, take, drop, length, get_or, Result, Ok, Err, arith, append_assoc, append-nil, length-append, length-drop, ◌⊎◌, inl, inr}
+use Rattle.std.proofs.Common.{◌≡◌, refl, sym, subst, ap, ◌∙◌, ℕ, zero, suc, ◌+◌, ◌-◌, ◌≤◌, ◌<◌, min, leb, Bool, true, false, List, [], ◌∷◌, ◌++◌, map, take, drop, length, get_or, Result, Ok, Err, arith, append_assoc, append-nil, length-append, length-drop, ◌⊎◌, inl, inr}
 use Rattle.std.proofs.lemmas.Bool.{leb-true, leb-false}
 use Rattle.std.proofs.lemmas.Bool.Decides.{nat_tests}
-use Rattle.std.proofs.lemmas.List.{take_all, take_min, take_more}
+use Rattle.std.proofs.lemmas.List.{take_all, take_min, take_more, get_or_append_left, get_or_push}
 use Rattle.std.proofs.lemmas.Result.{err_from_is_err_and}
-use Rattle.risch_field.specs.Checked.{Checked, Agrees, and_then, IsStopOf}
+use Rattle.risch_field.specs.Checked.{Checked, Agrees, and_then, map_ok, IsStopOf}
 use Rattle.risch_field.specs.declared.Fail.{Fail}
 use Rattle.risch_field.proofs.CheckedSteps.{stop_passes}
 use Rattle.risch_polynomial.specs.Poly as poly
 use Rattle.risch_level.specs.Levels.{element}
-use Rattle.risch_sub.specs.RemainderSequence.{InZ, Member, weight, with_first, trimmed, sized, leading, products_onto, differences_onto, pseudo_step, pseudo_steps, pseudo_remainder, divisor_with, divisor_of_all, primitive_part, next_member, remainders_from}
+use Rattle.risch_sub.specs.RemainderSequence.{InZ, Member, weight, with_first, trimmed, sized, leading, products_onto, differences_onto, pseudo_step, pseudo_steps, pseudo_remainder, divisor_with, divisor_of_all, primitive_part, part_of, following, next_member, remainders_from}
 
 -- ---- steps in a row
 and_then-assoc : {A B C : Type 0} (x : Checked A) (f : A → Checked B) (g : B → Checked C) → and_then (and_then x f) g ≡ and_then x (λ a. and_then (f a) g)
 and_then-assoc (Ok a) f g = refl
 and_then-assoc (Err stop) f g = refl
+
+-- what holds of the value of a rule holds of an answer that agrees
+pub agrees-if : {A : Type 0} (result : Result A Fail) (a : A) (P : A → Type 0) → P a → Agrees result (Ok a) → IfOk result P
+agrees-if (Ok b) a P h e = let same : a ≡ b = cc in subst P same h
+agrees-if (Err stop) a P h e = tt
+
+pub rule-if : {A : Type 0} (result : Result A Fail) (rule : Checked A) (P : A → Type 0) → ((a : A) → rule ≡ Ok a → P a) → Agrees result rule → IfOk result P
+rule-if (Ok a) rule P all e = all a e
+rule-if (Err stop) rule P all e = tt
 
 and_then-unit : {A : Type 0} (x : Checked A) → and_then x Ok ≡ x
 and_then-unit (Ok a) = refl
@@ -198,56 +207,58 @@ pseudo_steps_stop stop b (suc left) r some e =
     stop_passes stop (pseudo_step b r left) (pseudo_steps b left) (rw less at e)
 
 -- ---- the sequence
-above : (least n : ℕ) → least + 1 < n → nat_le n (least + 1) ≡ false
-above least n h = grind (arith, nat_tests)
+-- the members with the one that follows, and those after it
+abbrev continued : ℕ → ℕ → List Member → Member → Option Member → Checked (List Member)
+continued least steps members b None = Ok members
+continued least steps members b (Some m) = remainders_from least steps (members ++ m ∷ []) b m
 
-within : (least n : ℕ) → n ≤ least + 1 → nat_le n (least + 1) ≡ true
-within least n h = grind (arith, nat_tests)
+by_following : (least steps : ℕ) (members : List Member) (a b : Member) → remainders_from least (suc steps) members a b ≡ and_then (following least a b) (continued least steps members b)
+by_following least steps members a b = by_test (nat_le (length b) (least + 1))
+  where
+    by_part : (m : Checked Member) → and_then m (λ m. remainders_from least steps (members ++ m ∷ []) b m) ≡ and_then (map_ok Some m) (continued least steps members b)
+    by_part (Ok m) = refl
+    by_part (Err stop) = refl
 
-small : (least : ℕ) (members : List Member) (a b : Member) (steps : ℕ) → length b ≤ least + 1 → remainders_from least steps members a b ≡ Ok members
-small least members a b zero h = refl
-small least members a b (suc steps) h = rw (within least (length b) h) refl
+    by_rest : (r : Checked Member) → and_then r (next_member (λ m. remainders_from least steps (members ++ m ∷ []) b m) members) ≡ and_then (and_then r part_of) (continued least steps members b)
+    by_rest (Ok []) = refl
+    by_rest (Ok (p ∷ r)) = by_part (primitive_part (p ∷ r))
+    by_rest (Err stop) = refl
 
--- at the step i of n, with a and b after the members
-module _ (least n i : ℕ) (members : List Member) (a b : Member) {rule : Checked (List Member)} (so_far : rule ≡ remainders_from least (n - i) (members ++ a ∷ b ∷ []) a b) where
-  pub sequence_small : (result : Result (List Member) Fail) → length b ≤ least + 1 → Agrees result (Ok (members ++ a ∷ b ∷ [])) → Agrees result rule
-  sequence_small result h e = rw (so_far, small least (members ++ a ∷ b ∷ []) a b (n - i) h) e
+    by_test : (test : Bool) → (if test then Ok members else and_then (pseudo_remainder a b) (next_member (λ m. remainders_from least steps (members ++ m ∷ []) b m) members))
+        ≡ and_then (if test then Ok None else and_then (pseudo_remainder a b) part_of) (continued least steps members b)
+    by_test true = refl
+    by_test false = by_rest (pseudo_remainder a b)
 
-  pub sequence_over : (result : Result (List Member) Fail) → n ≤ i → Agrees result (Ok (members ++ a ∷ b ∷ [])) → Agrees result rule
-  sequence_over result h e =
+-- at the step i of n, where the members at i and i + 1 are the last
+module _ (least n i : ℕ) (members : List Member) {rule : Checked (List Member)} (so_far : rule ≡ remainders_from least (n - i) members (get_or members i []) (get_or members (i + 1) [])) where
+  pub sequence_over : n ≤ i → rule ≡ Ok members
+  sequence_over h =
       let none : n - i ≡ 0 = omega arith in
-      rw (so_far, none) e
+      so_far ∙ ap (λ k. remainders_from least k members (get_or members i []) (get_or members (i + 1) [])) none
 
-  -- a and b as they are read
-  module _ {read_a read_b : Member} (below : i < n) (large : least + 1 < length b) (is_a : read_a ≡ a) (is_b : read_b ≡ b) where
-    next_remainder : rule
-        ≡ and_then (pseudo_remainder read_a read_b) (next_member (λ m. remainders_from least (n - (i + 1)) ((members ++ a ∷ b ∷ []) ++ m ∷ []) b m) (members ++ a ∷ b ∷ []))
-    next_remainder =
+  module _ (below : i < n) where
+    next_step : rule ≡ and_then (following least (get_or members i []) (get_or members (i + 1) [])) (continued least (n - (i + 1)) members (get_or members (i + 1) []))
+    next_step =
         let one_less : n - i ≡ suc (n - (i + 1)) = omega arith in
-        so_far ∙ ap (λ k. remainders_from least k (members ++ a ∷ b ∷ []) a b) one_less ∙ rw (above least (length b) large, is_a, is_b) refl
+        so_far ∙ ap (λ k. remainders_from least k members (get_or members i []) (get_or members (i + 1) [])) one_less
+        ∙ by_following least (n - (i + 1)) members (get_or members i []) (get_or members (i + 1) [])
 
-    pub remainder_stops : (stop : Fail) (result : Result (List Member) Fail) → IsStopOf stop (pseudo_remainder read_a read_b) → IsErrAnd result (λ s. s ≡ stop) → Agrees result rule
-    remainder_stops stop result e is_err =
-        let s = err_from_is_err_and result is_err in
-        rw (s.1, s.2, next_remainder)
-        (stop_passes stop (pseudo_remainder read_a read_b) (next_member (λ m. remainders_from least (n - (i + 1)) ((members ++ a ∷ b ∷ []) ++ m ∷ []) b m) (members ++ a ∷ b ∷ [])) e)
-
-    pub sequence_zero : (r : Member) (result : Result (List Member) Fail) → pseudo_remainder read_a read_b ≡ Ok r → length r ≡ 0 → Agrees result (Ok (members ++ a ∷ b ∷ [])) → Agrees result rule
-    sequence_zero [] result e none h = rw (next_remainder, e) h
-    sequence_zero (p ∷ r) result e none h = absurd (omega arith)
-
-    next_part : (r : Member) → pseudo_remainder read_a read_b ≡ Ok r → 0 < length r → rule ≡ and_then (primitive_part r) (λ m. remainders_from least (n - (i + 1)) ((members ++ a ∷ b ∷ []) ++ m ∷ []) b m)
-    next_part [] e some = absurd (omega arith)
-    next_part (p ∷ r) e some = next_remainder ∙ rw e refl
-
-    module _ {r read_r : Member} (e : pseudo_remainder read_a read_b ≡ Ok r) (some : 0 < length r) (is_r : read_r ≡ r) where
-      pub part_stops : (stop : Fail) (result : Result (List Member) Fail) → IsStopOf stop (primitive_part read_r) → IsErrAnd result (λ s. s ≡ stop) → Agrees result rule
-      part_stops stop result h is_err =
+    module _ {read : List Member} (is : read ≡ members) where
+      pub sequence_stops : (stop : Fail) (result : Result (List Member) Fail) → IsStopOf stop (following least (get_or read i []) (get_or read (i + 1) [])) → IsErrAnd result (λ s. s ≡ stop) → Agrees result rule
+      sequence_stops stop result e is_err =
           let s = err_from_is_err_and result is_err in
-          rw (s.1, s.2, next_part r e some, ← is_r) (stop_passes stop (primitive_part read_r) (λ m. remainders_from least (n - (i + 1)) ((members ++ a ∷ b ∷ []) ++ m ∷ []) b m) h)
+          let here : IsStopOf stop (following least (get_or members i []) (get_or members (i + 1) [])) = rw is at e in
+          rw (s.1, s.2, next_step) (stop_passes stop (following least (get_or members i []) (get_or members (i + 1) [])) (continued least (n - (i + 1)) members (get_or members (i + 1) [])) here)
 
-      pub sequence_kept : {m : Member} {pushed : List Member} → primitive_part read_r ≡ Ok m → pushed ≡ members ++ a ∷ [] → rule ≡ remainders_from least (n - (i + 1)) (pushed ++ b ∷ m ∷ []) b m
-      sequence_kept {m} h is_pushed = next_part r e some ∙ rw (← is_r, h, is_pushed, one_more m) refl
-        where
-          one_more : (m : Member) → (members ++ a ∷ b ∷ []) ++ m ∷ [] ≡ (members ++ a ∷ []) ++ b ∷ m ∷ []
-          one_more m = append_assoc members (a ∷ b ∷ []) (m ∷ []) ∙ sym (append_assoc members (a ∷ []) (b ∷ m ∷ []))
+      pub sequence_ends : following least (get_or read i []) (get_or read (i + 1) []) ≡ Ok None → rule ≡ Ok members
+      sequence_ends e =
+          let here : following least (get_or members i []) (get_or members (i + 1) []) ≡ Ok None = rw is at e in
+          next_step ∙ rw here refl
+
+      pub sequence_kept : {m : Member} {pushed : List Member} → length members ≡ i + 2 → following least (get_or read i []) (get_or read (i + 1) []) ≡ Ok (Some m) → pushed ≡ members ++ m ∷ [] →
+          rule ≡ remainders_from least (n - (i + 1)) pushed (get_or pushed (i + 1) []) (get_or pushed (i + 1 + 1) [])
+      sequence_kept {m} count e is_pushed =
+          let here : following least (get_or members i []) (get_or members (i + 1) []) ≡ Ok (Some m) = rw is at e in
+          let last_is : get_or (members ++ m ∷ []) (i + 1) [] ≡ get_or members (i + 1) [] = get_or_append_left members (m ∷ []) [] (i + 1) (omega arith) in
+          let next_is : get_or (members ++ m ∷ []) (i + 1 + 1) [] ≡ m = get_or_push members m [] (i + 1 + 1) (omega arith) in
+          next_step ∙ rw (here, is_pushed, last_is, next_is) refl

@@ -1,7 +1,7 @@
 -- The primitive remainder sequence of polynomials in t over polynomials in z over the elements (Bronstein, Symbolic Integration I, section 1.5), in the order in which the values are formed. A member is the list of its
 -- coefficients, polynomials in z, from exponent 0 of t; the last is not 0.
-use Rattle.std.specs.Prelude.{ℕ, zero, suc, ◌+◌, ◌-◌, nat_le, if◌then◌else◌, List, [], ◌∷◌, ◌++◌, length, take, replicate, get_or, Ok, Err}
-use Rattle.risch_field.specs.Checked.{Checked, and_then}
+use Rattle.std.specs.Prelude.{ℕ, zero, suc, ◌+◌, ◌-◌, nat_le, if◌then◌else◌, Option, None, Some, List, [], ◌∷◌, ◌++◌, length, take, replicate, get_or, Ok, Err}
+use Rattle.risch_field.specs.Checked.{Checked, and_then, map_ok}
 use Rattle.risch_field.specs.declared.Fail.TheVariants.{Size}
 use Rattle.risch_polynomial.specs.Poly as poly
 use Rattle.risch_level.specs.Levels.{Element, element}
@@ -96,6 +96,14 @@ unfoldable pub primitive_part : Member → Checked Member
 primitive_part m = and_then (content m) (λ c. and_then (quotients_onto [] m c) sized)
 
 -- ---- the sequence
+-- the member that follows a and b, where there is one
+abbrev pub part_of : Member → Checked (Option Member)
+part_of [] = Ok None
+part_of (p ∷ r) = map_ok Some (primitive_part (p ∷ r))
+
+abbrev pub following : ℕ → Member → Member → Checked (Option Member)
+following least a b = if nat_le (length b) (least + 1) then Ok None else and_then (pseudo_remainder a b) part_of
+
 -- the members so far, of which a and b are the last, and those that follow: until one has at most the least degree, or the pseudo-remainder is 0, which is no member
 abbrev pub next_member : (Member → Checked (List Member)) → List Member → Member → Checked (List Member)
 next_member more members [] = Ok members

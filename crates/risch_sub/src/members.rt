@@ -1,6 +1,6 @@
 //! Polynomials in t over the polynomials in z, as the list of their coefficients from exponent 0.
 
-ghost use Rattle.std.specs.Prelude.{◌≡◌, ◌++◌, [], nat_le, replicate, map, take, All, IfOk, OnOk};
+ghost use Rattle.std.specs.Prelude.{◌≡◌, ◌++◌, [], nat_le, replicate, map, take, All, IfOk, OnOk, Ok};
 ghost use Rattle.risch_polynomial.specs.Poly as poly;
 ghost use Rattle.risch_level.specs.Levels.{element};
 ghost use Rattle.risch_field.specs.Checked.{Agrees, AgreesWith, and_then};
@@ -170,12 +170,9 @@ pub(crate) fn difference(alloc: Global, left: &[Inner], right: &[Inner]) -> Resu
 }
 
 /// The same polynomials, the coefficients of whose coefficients are in normal form.
-pub(crate) fn wrapped_members(
-    alloc: Global,
-    from: Items<Member>,
-) -> Result<Items<PolyList>, AllocError>
+pub(crate) fn wrapped_members(alloc: Global, from: Items<Member>) -> Result<Items<PolyList>, Fail>
     requires { All (All IsPolynomial) from }
-    ensures { IfOk result (λ it. it ≡ from) }
+    ensures { Agrees result (Ok from) }
 {
     let mut to = Items::new(alloc);
     for member in from.into_vec() {

@@ -74,6 +74,5 @@ pub fn characteristic(
     ensures meaning { IfOk result (λ it. ArePowerTraces modulus.now of.now it) }
     ensures within { (n : ℕ) → AllWithin n modulus.now → AllWithin n of.now → IfOk result (λ it. AllWithin n it) }
 {
-    let traces = power_traces(alloc, modulus.inner(), of.inner(), power)?;
-    Ok(traces)
+    power_traces(alloc, modulus.inner(), of.inner(), power)
 }

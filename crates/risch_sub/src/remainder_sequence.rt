@@ -1,6 +1,6 @@
 //! The primitive remainder sequence of polynomials in t over the polynomials in z (Bronstein, Symbolic Integration I, section 1.5).
 
-ghost use Rattle.std.specs.Prelude.{◌≤◌, ◌<◌, ◌+◌, ◌++◌, ℕ, [], ◌∷◌, length, All, IfOk, Ok};
+ghost use Rattle.std.specs.Prelude.{◌≤◌, ◌<◌, ◌+◌, ℕ, [], length, get_or, All, IfOk};
 ghost use Rattle.risch_field.specs.Checked.{Agrees};
 ghost use Rattle.risch_element_theory.specs.WholeTower.{AllWithin};
 ghost use Rattle.risch_sub.specs.RemainderSequence as spec;
@@ -46,14 +46,25 @@ fn pseudo_remainder(alloc: Global, of: &[Inner], by: &[Inner]) -> Result<Member,
     Ok(rest)
 }
 
-/// The members with the two that are formed last.
-fn finished(members: Items<Member>, above: Member, last: Member) -> Result<Items<Member>, Fail>
-    ensures { Agrees result (Ok (members ++ above ∷ last ∷ [])) }
+/// The member that follows those at a place and behind it, and `None` where there is no further one.
+fn next_member(
+    alloc: Global,
+    members: &[Member],
+    place: usize,
+    least: u16,
+) -> Result<Option<Member>, Fail>
+    requires { place + 2 ≤ length members.now }
+    ensures { Agrees result (spec.following least (get_or members.now place []) (get_or members.now (place + 1) [])) }
 {
-    let mut members = members;
-    members.push(above)?;
-    members.push(last)?;
-    Ok(members)
+    let last = members[place + 1].as_slice();
+    if last.len() <= usize::from(least) + 1 {
+        return Ok(None);
+    }
+    let rest = pseudo_remainder(alloc, members[place].as_slice(), last)?;
+    if rest.len() == 0 {
+        return Ok(None);
+    }
+    Ok(Some(primitive_part(alloc, rest.as_slice())?))
 }
 
 /// R_0 = d, R_1 = b, .. to the last member that is formed.
@@ -63,22 +74,15 @@ fn finished(members: Items<Member>, above: Member, last: Member) -> Result<Items
 pub fn sequence(alloc: Global, d: Member, b: Member, least: u16) -> Result<Items<Member>, Fail>
     ensures { Agrees result (spec.remainders d b least) }
 {
-    let mut members = Items::new(alloc);
-    let mut above = d;
-    let mut last = b;
-    for _step in 0..last.len() {
-        if last.len() <= usize::from(least) + 1 {
-            return finished(members, above, last);
+    let steps = b.len();
+    let mut members = Items::from_vec(Vec::from_array(alloc, [d, b])?);
+    for step in 0..steps {
+        match next_member(alloc, members.as_slice(), step, least)? {
+            Some(next) => members.push(next)?,
+            None => return Ok(members),
         }
-        let rest = pseudo_remainder(alloc, above.as_slice(), last.as_slice())?;
-        if rest.len() == 0 {
-            return finished(members, above, last);
-        }
-        members.push(above)?;
-        above = last;
-        last = primitive_part(alloc, rest.as_slice())?;
     }
-    finished(members, above, last)
+    Ok(members)
 }
 
 /// The primitive remainder sequence R_0 = d, R_1 = b, R_2, .. of polynomials in t over the polynomials in z (Bronstein, section 1.5): R_(i+1) is the pseudo-remainder of R_(i-1) by R_i, divided by
@@ -98,5 +102,5 @@ pub fn remainders(alloc: Global, d: &ZPoly, b: &ZPoly, least: u16) -> Result<ZPo
     let dividend = unwrapped(alloc, d.as_slice())?;
     let divisor = unwrapped(alloc, b.as_slice())?;
     let members = sequence(alloc, dividend, divisor, least)?;
-    Ok(wrapped_members(alloc, members)?)
+    wrapped_members(alloc, members)
 }

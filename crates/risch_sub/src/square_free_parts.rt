@@ -56,5 +56,5 @@ pub fn square_free(alloc: Global, poly: &Poly) -> Result<PolyList, Fail>
     ensures within { (n : ℕ) → AllWithin n poly.now → IfOk result (λ it. All (AllWithin n) it) }
 {
     let parts = square_free_parts(alloc, poly.inner())?;
-    Ok(wrapped(alloc, parts)?)
+    wrapped(alloc, parts)
 }

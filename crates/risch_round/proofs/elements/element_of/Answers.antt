@@ -41,17 +41,17 @@ pub formed-requires : goal.formed-requires
 formed-requires c = (
   element_of c.args.polynomial.now,
   subst (λ rule. Agrees c.quotient.result rule)
-  (quotient-formed c.in_ok-numerator.numerator c.in_ok-denominator.denominator c.coefficients.result.now c.args.polynomial.now c.one.result c.coefficients.ensures.value c.one.ensures.value
-  c.in_ok-numerator.ensures c.in_ok-denominator.ensures c.kept_weight-weight.ensures.ends_not_zero c.kept_weight-weight.ensures.degree_small)
-  c.quotient.ensures.rule,
+      (quotient-formed c.in_ok-numerator.numerator c.in_ok-denominator.denominator c.coefficients.result.now c.args.polynomial.now c.one.result c.coefficients.ensures.value c.one.ensures.value
+      c.in_ok-numerator.ensures c.in_ok-denominator.ensures c.kept_weight-weight.ensures.ends_not_zero c.kept_weight-weight.ensures.degree_small)
+      c.quotient.ensures.rule,
 )
 
 pub returns-clause-value : goal.returns-clause-value
 returns-clause-value c = formed-is c.quotient.result c.formed.result (element_of c.args.polynomial.now)
-  (subst (λ rule. Agrees c.quotient.result rule)
-  (quotient-formed c.in_ok-numerator.numerator c.in_ok-denominator.denominator c.coefficients.result.now c.args.polynomial.now c.one.result c.coefficients.ensures.value c.one.ensures.value
-  c.in_ok-numerator.ensures c.in_ok-denominator.ensures c.kept_weight-weight.ensures.ends_not_zero c.kept_weight-weight.ensures.degree_small)
-  c.quotient.ensures.rule) c.formed.ensures
+    (subst (λ rule. Agrees c.quotient.result rule)
+    (quotient-formed c.in_ok-numerator.numerator c.in_ok-denominator.denominator c.coefficients.result.now c.args.polynomial.now c.one.result c.coefficients.ensures.value c.one.ensures.value
+    c.in_ok-numerator.ensures c.in_ok-denominator.ensures c.kept_weight-weight.ensures.ends_not_zero c.kept_weight-weight.ensures.degree_small)
+    c.quotient.ensures.rule) c.formed.ensures
 
 pub returns-clause-within : goal.returns-clause-within
 returns-clause-within c = formed-if c.quotient.result c.formed.result (Within 1) c.quotient.ensures.within c.formed.ensures

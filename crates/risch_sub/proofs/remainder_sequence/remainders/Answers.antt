@@ -1,6 +1,7 @@
 use Rattle.std.proofs.Common.{◌≡◌, Ok, All}
-use Rattle.risch_element_theory.specs.WholeTower.{IsPolynomial}
+use Rattle.risch_element_theory.specs.WholeTower.{IsPolynomial, AllWithin}
 use Rattle.risch_sub.specs.RemainderSequence.{remainders}
+use Rattle.risch_sub.proofs.RemainderSteps.{agrees-if}
 use Rattle.risch_sub.proofs.RemainderRules.{remainders-are_polynomials, remainders-within}
 use Rattle.risch_sub.proofs.remainder_sequence.remainders.Goals as goal
 use Rattle.risch_sub.proofs.remainder_sequence.remainders.Goals.{In_ok-members}
@@ -19,6 +20,10 @@ wrapped_members-requires c =
     let x = (goal.at.wrapped_members-requires c).In_ok-members in
     remainders-are_polynomials c.args.d.now c.args.b.now c.args.least c.in_ok-members.members (dividend_kept x) (divisor_kept x) c.requires.dividend c.requires.divisor (formed x)
 
+pub returns-clause-rule : goal.returns-clause-rule
+returns-clause-rule c = rw (formed (goal.at.returns-clause-rule c).In_ok-members) c.wrapped_members.ensures
+
 pub returns-clause-within : goal.returns-clause-within
 returns-clause-within c n all_d all_b =
-    rw c.in_ok-wrapped_members.ensures (remainders-within n c.args.d.now c.args.b.now c.args.least c.in_ok-members.members all_d all_b (formed (goal.at.returns-clause-within c).In_ok-members))
+    agrees-if c.wrapped_members.result c.in_ok-members.members (All (All (AllWithin n)))
+    (remainders-within n c.args.d.now c.args.b.now c.args.least c.in_ok-members.members all_d all_b (formed (goal.at.returns-clause-within c).In_ok-members)) c.wrapped_members.ensures
