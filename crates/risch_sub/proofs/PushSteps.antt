@@ -1,8 +1,8 @@
 -- The steps of the rules that form the members of a list from those of others, in their order. In the first, f is what is formed of one member, and `onto` appends what is formed of all.
 use Rattle.std.specs.Prelude.{⊤, replicate}
 use Rattle.std.specs.Result.{IsErrAnd}
-use Rattle.std.proofs.Common.{◌≡◌, ℕ, ◌+◌, ◌<◌, ◌≤◌, min, List, [], ◌∷◌, ◌++◌, append_assoc, drop, length, get_or, Result, Ok, sym, ap, ◌∙◌, refl, arith}
-use Rattle.std.proofs.lemmas.List.{drop_more, drop_all}
+use Rattle.std.proofs.Common.{◌≡◌, ℕ, ◌+◌, ◌<◌, ◌≤◌, zero, suc, min, map, take, List, [], ◌∷◌, ◌++◌, append_assoc, drop, length, get_or, Result, Ok, sym, ap, ◌∙◌, refl, arith}
+use Rattle.std.proofs.lemmas.List.{drop_more, drop_all, take_all, take_more}
 use Rattle.std.proofs.lemmas.Grind.{replicate_next}
 use Rattle.std.proofs.lemmas.Result.{err_from_is_err_and}
 use Rattle.risch_field.specs.Checked.{Checked, and_then, IsStopOf, AgreesWith}
@@ -57,9 +57,33 @@ module _ (formed : Member) (c : InZ) (m : Member) (i : ℕ) {rule : Checked Memb
   pub products_whole : length m ≤ i → rule ≡ Ok formed
   products_whole past = onto_whole (poly.product element c) (λ l m. products_onto l c m) (λ k p l. refl) m i formed (λ k. refl) rule so_far past
 
+-- ---- x_0, x_1, .. and f x_0, f x_1, ..
+module _ {A : Type 0} (xs : List A) (i : ℕ) (before : List A) {formed : List A} (so_far : formed ≡ before ++ take i xs) where
+  pub copies_kept : {x r : A} {next : List A} → i < length xs → x ≡ get_or xs i x → r ≡ x → next ≡ formed ++ r ∷ [] → next ≡ before ++ take (i + 1) xs
+  copies_kept {x} below is r_is pushed =
+      pushed ∙ rw (so_far, r_is) (append_assoc before (take i xs) (x ∷ []) ∙ ap (λ l. before ++ l) (sym (take_more xs i x below ∙ ap (λ y. take i xs ++ y ∷ []) (sym is))))
+
+  pub copies_whole : length xs ≤ i → formed ≡ before ++ xs
+  copies_whole past = so_far ∙ ap (λ l. before ++ l) (take_all i xs past)
+
+map-more : {A B : Type 0} (f : A → B) (xs : List A) (i : ℕ) (x : A) → i < length xs → x ≡ get_or xs i x → map f (take (i + 1) xs) ≡ map f (take i xs) ++ f x ∷ []
+map-more f [] i x below is = absurd (omega arith)
+map-more f (y ∷ xs) zero x below is = ap (λ z. f z ∷ []) (sym is)
+map-more f (y ∷ xs) (suc i) x below is =
+    let s : suc i + 1 ≡ suc (i + 1) = omega arith in
+    ap (λ k. map f (take k (y ∷ xs))) s ∙ ap (λ r. f y ∷ r) (map-more f xs i x (omega arith) is)
+
+module _ {A B : Type 0} (f : A → B) (xs : List A) (i : ℕ) (before : List B) {formed : List B} (so_far : formed ≡ before ++ map f (take i xs)) where
+  pub images_kept : {x : A} {r : B} {next : List B} → i < length xs → x ≡ get_or xs i x → r ≡ f x → next ≡ formed ++ r ∷ [] → next ≡ before ++ map f (take (i + 1) xs)
+  images_kept {x} below is r_is pushed =
+      pushed ∙ rw (so_far, r_is) (append_assoc before (map f (take i xs)) (f x ∷ []) ∙ ap (λ l. before ++ l) (sym (map-more f xs i x below is)))
+
+  pub images_whole : length xs ≤ i → formed ≡ before ++ map f xs
+  images_whole past = so_far ∙ ap (λ l. before ++ map f l) (take_all i xs past)
+
 -- ---- 0, 0, ..
 pub zeros_kept : (before formed next : Member) (i : ℕ) {p : InZ} → formed ≡ before ++ replicate i [] → p ≡ [] → next ≡ formed ++ p ∷ [] → next ≡ before ++ replicate (i + 1) []
-zeros_kept before formed next i so_far zero pushed = pushed ∙ rw (so_far, zero, replicate_next {X = InZ} i []) (append_assoc before (replicate i []) ([] ∷ []))
+zeros_kept before formed next i so_far is pushed = pushed ∙ rw (so_far, is, replicate_next {X = InZ} i []) (append_assoc before (replicate i []) ([] ∷ []))
 
 -- ---- m_0 - n_0, m_1 - n_1, ..
 module _ (formed m n : Member) (i : ℕ) {rule : Checked Member} (so_far : rule ≡ differences_onto formed (drop i m) (drop i n))

@@ -78,8 +78,8 @@ fn push_copies(alloc: Global, to: &mut Vec<Inner>, from: &[Inner]) -> Result<(),
 }
 
 /// Appends -m_0, -m_1, ..
-fn push_negatives(alloc: Global, to: &mut Vec<Inner>, from: &[Inner]) -> Result<(), AllocError>
-    ensures { OnOk result (to.new.items ≡ to.old.items ++ map (poly.negatives element) from.now) }
+fn push_negatives(alloc: Global, to: &mut Vec<Inner>, from: &[Inner]) -> Result<(), Fail>
+    ensures { AgreesWith result to.new.items (Ok (to.old.items ++ map (poly.negatives element) from.now)) }
 {
     for item in from {
         to.push(item.neg(alloc)?)?;
@@ -126,8 +126,7 @@ fn push_differences(
         to.push(difference)?;
     }
     push_copies(alloc, to, &left[both..])?;
-    push_negatives(alloc, to, &right[both..])?;
-    Ok(())
+    push_negatives(alloc, to, &right[both..])
 }
 
 /// m once more.

@@ -24,19 +24,19 @@ pub fn next_power(alloc: Global, modulus: &Inner, of: &Inner, power: &Inner) -> 
     remainder(alloc, &product, modulus)
 }
 
-/// The trace of u, which is given, and those of u², u³, .., as many as `steps`.
+/// The traces so far, the last of them that of `power`, and those of the powers of u that follow, as many as `steps`.
 fn further_traces(
     alloc: Global,
     modulus: &Inner,
     of: &Inner,
     steps: u16,
-    first: Elem,
+    traces: ElemList,
+    power: Inner,
 ) -> Result<ElemList, Fail>
-    ensures { Agrees result (spec.further_traces modulus.now of.now steps (first ∷ []) of.now) }
+    ensures { Agrees result (spec.further_traces modulus.now of.now steps traces power) }
 {
-    let mut traces = ElemList::new(alloc);
-    traces.push(first)?;
-    let mut power = of.copy(alloc)?;
+    let mut traces = traces;
+    let mut power = power;
     for _step in 0..steps {
         power = next_power(alloc, modulus, of, &power)?;
         let value = trace(alloc, modulus, &power)?;
@@ -50,11 +50,12 @@ fn further_traces(
 fn power_traces(alloc: Global, modulus: &Inner, of: &Inner, power: u16) -> Result<ElemList, Fail>
     ensures { Agrees result (spec.power_traces modulus.now of.now power) }
 {
+    let mut traces = ElemList::new(alloc);
     if power == 0 {
-        return Ok(ElemList::new(alloc));
+        return Ok(traces);
     }
-    let first = trace(alloc, modulus, of)?;
-    further_traces(alloc, modulus, of, power - 1, first)
+    traces.push(trace(alloc, modulus, of)?)?;
+    further_traces(alloc, modulus, of, power - 1, traces, of.copy(alloc)?)
 }
 
 /// The traces of u, u², .., u^n in the algebra modulo d, for a monic polynomial d over the elements of degree at least 1, a polynomial u of smaller degree, and n = `power` from 0 to 65535.

@@ -1,4 +1,4 @@
-use Rattle.std.proofs.Common.{◌∙◌, ◌≡◌, min, length, arith}
+use Rattle.std.proofs.Common.{◌∙◌, ◌≡◌, min, length, refl, arith}
 use Rattle.risch_sub.proofs.PushSteps.{differences_kept, differences_stop}
 use Rattle.risch_sub.proofs.RemainderSteps.{differences_end}
 use Rattle.risch_sub.proofs.members.push_differences.Goals as goal
@@ -7,9 +7,9 @@ pub returns : goal.returns
 returns c =
     let end_is : c.loop-i.i ≡ c.min-both.result = omega arith in
     let shorter : c.loop-i.i ≡ min (length c.args.left.now) (length c.args.right.now) = omega arith in
-    c.loop-i.invariant
-    ∙ differences_end c.loop-i.to.items c.args.left.now c.args.right.now c.push_copies.new.to.items c.push_negatives.new.to.items c.loop-i.i shorter
-    (rw end_is (c.in_ok-push_copies.ensures)) (rw end_is (c.in_ok-push_negatives.ensures))
+    let whole =
+    c.loop-i.invariant ∙ differences_end c.loop-i.to.items c.args.left.now c.args.right.now c.push_copies.new.to.items _ c.loop-i.i shorter (rw end_is (c.in_ok-push_copies.ensures)) refl in
+    rw (whole, end_is) c.push_negatives.ensures
 
 pub returns-in_err-difference : goal.returns-in_err-difference
 returns-in_err-difference c =
