@@ -1,8 +1,10 @@
 -- The steps of the rules of the logarithms, and the variables that occur.
 use Rattle.std.specs.Prelude.{nat_le}
+use Rattle.std.specs.Result.{IsErrAnd}
 use Rattle.std.proofs.Common.{◌≡◌, ℕ, zero, suc, ◌+◌, ◌-◌, ◌≤◌, ◌<◌, ◌&&◌, List, [], ◌∷◌, ◌++◌, length, All, IfOk, Result, Ok, Err, refl, sym, subst, arith, add-one}
 use Rattle.std.proofs.lemmas.List.Elements.{All-head, All-tail}
-use Rattle.risch_field.specs.Checked.{Agrees, IsStopOf}
+use Rattle.std.proofs.lemmas.Result.{err_from_is_err_and}
+use Rattle.risch_field.specs.Checked.{Checked, Agrees, IsStopOf}
 use Rattle.risch_field.specs.declared.Fail.{Fail}
 use Rattle.risch_field.proofs.CheckedSteps.{stop_passes, if-ok}
 use Rattle.risch_polynomial.specs.Poly as poly
@@ -30,9 +32,15 @@ module _ (level k : ℕ) (formed : List Element) (m : Member) where
       let next : k + 1 ≡ suc k = add-one k in
       rw (less, is, next) refl
 
-  pub element_stops : (stop : Fail) (steps : ℕ) → 0 < steps → IsStopOf stop (element_at level k m) → IsStopOf stop (by_powers_from level k steps formed m)
+  element_stops : (stop : Fail) (steps : ℕ) → 0 < steps → IsStopOf stop (element_at level k m) → IsStopOf stop (by_powers_from level k steps formed m)
   element_stops stop zero some h = absurd (omega arith)
   element_stops stop (suc steps) some h = stop_passes stop (element_at level k m) (λ e. by_powers_from level (suc k) steps (formed ++ e ∷ []) m) h
+
+  pub powers_stop : (count : ℕ) {rule : Checked (List Element)} → rule ≡ by_powers_from level k (count - k) formed m → k < count → (stop : Fail) (result : Result (List Element) Fail) → IsStopOf stop (element_at level k m) →
+      IsErrAnd result (λ s. s ≡ stop) → Agrees result rule
+  powers_stop count so_far below stop result e is_err =
+      let s = err_from_is_err_and result is_err in
+      rw (s.1, s.2, so_far) (element_stops stop (count - k) (omega arith) e)
 
 -- ---- the variables that occur
 coefficients_at-within : (n k : ℕ) (m : Member) → All (AllWithin n) m → AllWithin n (coefficients_at k m)

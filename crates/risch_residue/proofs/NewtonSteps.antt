@@ -1,8 +1,10 @@
 -- The steps of Newton's identities.
-use Rattle.std.proofs.Common.{◌≡◌, ℕ, zero, suc, ◌+◌, ◌-◌, ◌<◌, ◌≤◌, Bool, not, true, false, leb, min, List, [], ◌∷◌, ◌++◌, length, drop, get_or, Ok, refl, ◌∙◌, arith}
+use Rattle.std.proofs.Common.{◌≡◌, ℕ, zero, suc, ◌+◌, ◌-◌, ◌<◌, ◌≤◌, Bool, not, true, false, leb, min, List, [], ◌∷◌, ◌++◌, length, drop, get_or, Result, Ok, refl, sym, ap, ◌∙◌, append_assoc, append-nil, arith}
+use Rattle.std.specs.Result.{IsErrAnd}
 use Rattle.std.proofs.lemmas.List.{drop_more, drop_all}
+use Rattle.std.proofs.lemmas.Result.{err_from_is_err_and}
 use Rattle.std.proofs.lemmas.Bool.{leb-true, leb-false}
-use Rattle.risch_field.specs.Checked.{and_then, IsStopOf}
+use Rattle.risch_field.specs.Checked.{Checked, and_then, Agrees, IsStopOf}
 use Rattle.risch_field.specs.declared.Fail.{Fail}
 use Rattle.risch_field.proofs.CheckedSteps.{stop_passes}
 use Rattle.risch_polynomial.specs.Poly as poly
@@ -55,11 +57,25 @@ module _ (es ps : List Element) where
       let less : suc steps - 1 ≡ steps = omega arith in
       rw (less, f) refl
 
-  pub symmetric_stops : (stop : Fail) (steps : ℕ) → 0 < steps → IsStopOf stop (next_symmetric es ps) → IsStopOf stop (symmetrics_from steps es ps)
+  symmetric_stops : (stop : Fail) (steps : ℕ) → 0 < steps → IsStopOf stop (next_symmetric es ps) → IsStopOf stop (symmetrics_from steps es ps)
   symmetric_stops stop zero some f = absurd (omega arith)
   symmetric_stops stop (suc steps) some f = stop_passes stop (next_symmetric es ps) (λ e. symmetrics_from steps (es ++ e ∷ []) ps) f
 
+  pub next_stops : (n i : ℕ) {rule : Checked (List Element)} → rule ≡ symmetrics_from (n - i) es ps → i < n → (stop : Fail) (result : Result (List Element) Fail) → IsStopOf stop (next_symmetric es ps) →
+      IsErrAnd result (λ s. s ≡ stop) → Agrees result rule
+  next_stops n i so_far below stop result e is_err =
+      let s = err_from_is_err_and result is_err in
+      rw (s.1, s.2, so_far) (symmetric_stops stop (n - i) (omega arith) e)
+
 -- ---- the signs
-pub alternating-more : (es : List Element) (j : ℕ) (minus : Bool) (e : Element) → j < length es → e ≡ get_or es j e →
+alternating-more : (es : List Element) (j : ℕ) (minus : Bool) (e : Element) → j < length es → e ≡ get_or es j e →
     alternating minus (drop j es) ≡ poly.signed element minus e ∷ alternating (not minus) (drop (j + 1) es)
 alternating-more es j minus e below is = rw (drop_more es j e below, ← is) refl
+
+module _ (es : List Element) (j : ℕ) (minus : Bool) (signs : List Element) {rule : List Element} (so_far : rule ≡ signs ++ alternating minus (drop j es)) where
+  pub signs_kept : {e r : Element} {next : List Element} → j < length es → e ≡ get_or es j e → r ≡ poly.signed element minus e → next ≡ signs ++ r ∷ [] → rule ≡ next ++ alternating (not minus) (drop (j + 1) es)
+  signs_kept {e} {r} below is r_is pushed =
+      so_far ∙ ap (λ l. signs ++ l) (alternating-more es j minus e below is) ∙ rw (pushed, r_is) (sym (append_assoc signs (poly.signed element minus e ∷ []) (alternating (not minus) (drop (j + 1) es))))
+
+  pub signs_whole : length es ≤ j → signs ≡ rule
+  signs_whole past = sym (so_far ∙ rw (drop_all j es past) (append-nil signs))

@@ -1,8 +1,8 @@
--- The steps of the rules that form the coefficients of an argument from those of a member, at the coefficient p at i.
+-- The steps of the rules that form a list from another one, at the place i: of what is formed of each item alone, and of the coefficients of an argument from those of a member, at the coefficient p.
 use Rattle.std.specs.Prelude.{⊤}
 use Rattle.std.specs.Result.{IsErrAnd}
-use Rattle.std.proofs.Common.{◌≡◌, ℕ, ◌+◌, ◌<◌, ◌≤◌, [], ◌∷◌, ◌++◌, drop, length, get_or, Result, Ok, ◌∙◌, refl}
-use Rattle.std.proofs.lemmas.List.{drop_more, drop_all}
+use Rattle.std.proofs.Common.{◌≡◌, ℕ, ◌+◌, ◌<◌, ◌≤◌, [], ◌∷◌, ◌++◌, List, zero, suc, map, take, drop, length, get_or, Result, Ok, sym, ap, ◌∙◌, refl, arith}
+use Rattle.std.proofs.lemmas.List.{drop_more, drop_all, take_all}
 use Rattle.std.proofs.lemmas.Result.{err_from_is_err_and}
 use Rattle.risch_field.specs.Checked.{Checked, and_then, IsStopOf, AgreesWith}
 use Rattle.risch_field.specs.declared.Fail.{Fail}
@@ -13,6 +13,21 @@ use Rattle.risch_trace.specs.Traces.{remainder}
 use Rattle.risch_sub.specs.RemainderSequence.{InZ, Member}
 use Rattle.risch_sub.proofs.PushSteps.{onto_kept, onto_stops, onto_whole}
 use Rattle.risch_logarithm_rules.specs.Logarithms.{remainders_onto, multiples_onto}
+
+-- ---- f x_0, f x_1, ..
+map-more : {A B : Type 0} (f : A → B) (xs : List A) (i : ℕ) (x : A) → i < length xs → x ≡ get_or xs i x → map f (take (i + 1) xs) ≡ map f (take i xs) ++ f x ∷ []
+map-more f [] i x below is = absurd (omega arith)
+map-more f (y ∷ xs) zero x below is = ap (λ z. f z ∷ []) (sym is)
+map-more f (y ∷ xs) (suc i) x below is =
+    let s : suc i + 1 ≡ suc (i + 1) = omega arith in
+    ap (λ k. map f (take k (y ∷ xs))) s ∙ ap (λ r. f y ∷ r) (map-more f xs i x (omega arith) is)
+
+module _ {A B : Type 0} (f : A → B) (xs : List A) (i : ℕ) {before : List B} (so_far : before ≡ map f (take i xs)) where
+  pub map_kept : {x : A} {r : B} {next : List B} → i < length xs → x ≡ get_or xs i x → r ≡ f x → next ≡ before ++ r ∷ [] → next ≡ map f (take (i + 1) xs)
+  map_kept {x} below is r_is pushed = pushed ∙ rw (so_far, r_is) (sym (map-more f xs i x below is))
+
+  pub map_whole : length xs ≤ i → before ≡ map f xs
+  map_whole past = so_far ∙ ap (map f) (take_all i xs past)
 
 -- ---- p_0 rem R, p_1 rem R, ..
 module _ (formed m : Member) (i : ℕ) (R : InZ) {rule : Checked Member} (so_far : rule ≡ remainders_onto formed (drop i m) R) where

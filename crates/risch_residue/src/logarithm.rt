@@ -53,7 +53,6 @@ fn element_at(alloc: Global, level: u8, exponent: usize, of: &[Inner]) -> Result
 }
 
 /// S ordered by the powers of z, the first `count` of them.
-#[tactic(auto, using(crate::proofs::LogarithmSteps::element_stops))]
 fn by_powers(alloc: Global, level: u8, count: usize, of: &[Inner]) -> Result<ElemList, Fail>
     requires level { level < 5 }
     requires within { All (AllWithin level) of.now }

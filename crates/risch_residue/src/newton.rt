@@ -53,7 +53,6 @@ fn next_symmetric(alloc: Global, es: &[Elem], traces: &[Elem]) -> Result<Elem, F
 }
 
 /// e_0 .. e_m, from the traces p_1 .. p_m.
-#[tactic(auto, using(crate::proofs::NewtonSteps::symmetric_stops))]
 fn symmetrics(alloc: Global, traces: &[Elem]) -> Result<ElemList, Fail>
     ensures { Agrees result (spec.symmetrics_from (length traces.now) (element.one ∷ []) traces.now) }
 {
