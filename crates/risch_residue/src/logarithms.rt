@@ -3,6 +3,7 @@
 ghost use Rattle.std.specs.Prelude.{◌≡◌, ◌≤◌, ◌<◌, ◌+◌, ℕ, [], None, length, All, IfOk, IfSome};
 ghost use Rattle.risch_field.specs.Checked.{Agrees};
 ghost use Rattle.risch_element_theory.specs.WholeTower.{Within, AllWithin};
+ghost use Rattle.risch_monomial.specs.LevelElements.{numerator_at, denominator_at};
 ghost use Rattle.risch_logarithm_rules.specs.Logarithms as spec;
 
 use crate::argument::argument_of;
@@ -15,7 +16,7 @@ use risch_sub::members::Member;
 use risch_sub::polynomials::Inner;
 use risch_sub::square_free_parts::square_free_parts;
 use risch_tower::Tower;
-use std::alloc::Global;
+use std::alloc::{AllocError, Global};
 
 /// The argument for R from the first member of degree i.
 fn argument_at(
@@ -126,6 +127,23 @@ fn logarithms_of_parts(
     Ok(logs)
 }
 
+/// The numerator and the denominator of an element of a level.
+fn quotient(alloc: Global, level: u8, h: &Elem) -> Result<Quotient, AllocError>
+    requires low { level < 5 }
+    requires within { Within (level + 1) h.now }
+    ensures numerator { IfOk result (λ it. it.numerator ≡ numerator_at level h.now) }
+    ensures denominator { IfOk result (λ it. it.denominator ≡ denominator_at level h.now) }
+    ensures numerator_within { IfOk result (λ it. AllWithin level it.numerator) }
+    ensures denominator_within { IfOk result (λ it. AllWithin level it.denominator) }
+{
+    let numerator = h.num_poly(alloc, level)?;
+    let denominator = h.den_poly(alloc, level)?;
+    Ok(Quotient {
+        numerator,
+        denominator,
+    })
+}
+
 /// The logarithms of the residues of an element a/d of a level from the traces p_1 .. p_m of the powers of ρ, m = deg d.
 ///
 /// Stops: that of the first value that cannot be formed, of the characteristic polynomial, its square-free parts, the remainder sequence, the arguments and the logarithms.
@@ -148,9 +166,6 @@ pub(crate) fn logarithms(
         let _coefficients = polynomial.coefficients();
         square_free_parts(alloc, &polynomial)?
     };
-    let of = Quotient {
-        numerator: h.num_poly(alloc, level)?,
-        denominator: h.den_poly(alloc, level)?,
-    };
+    let of = quotient(alloc, level, h)?;
     logarithms_of_parts(alloc, tower, level, &of, parts.as_slice())
 }

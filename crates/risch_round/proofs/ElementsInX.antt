@@ -11,10 +11,7 @@ use Rattle.risch_mean.specs.Element.{add, mul, zero, one, variable}
 use Rattle.risch_mean.specs.ElementField.{elements}
 use Rattle.risch_mean.specs.ElementFieldLaws.{mul-one, one-ne-zero}
 use Rattle.risch_mean.specs.ElementLaws.{over-mul}
-use Rattle.risch_frac.specs.declared.Op.{Op}
-use Rattle.risch_field.specs.Checked.{Checked, map_ok, Agrees, IsStopOf}
-use Rattle.risch_field.specs.declared.Fail.{Fail}
-use Rattle.risch_field.specs.declared.Fail.TheVariants.{Overflow, Size}
+use Rattle.risch_field.specs.Checked.{Checked, map_ok, Agrees}
 use Rattle.risch_field.specs.Ground.{ground}
 use Rattle.risch_polynomial.specs.Poly as poly
 use Rattle.risch_polynomial_theory.specs.FractionMeaning.{fraction_meaning}
@@ -212,14 +209,7 @@ stands-degree e p s = let same = ap length s.ends_not_zero in let small = s.degr
 pub stands-weight : (e : Element) (p : List Fraction) → IsPolynomialInX e p → poly.weight ground p ≤ 65536
 stands-weight e p s = let bound = weight-small p in let small = s.degree_small in omega arith
 
--- ---- a rule that gives a value has no stop
-pub no_overflow : {A : Type 0} {op : Op} (stop : Fail) (rule : Checked A) (a : A) → rule ≡ Ok a → stop ≡ Overflow op → IsStopOf stop rule → ⊥
-no_overflow stop rule a is e h = let both = sym is ∙ (rw e at h) in cc
-
-pub no_size : {A : Type 0} (stop : Fail) (rule : Checked A) (a : A) → rule ≡ Ok a → stop ≡ Size → IsStopOf stop rule → ⊥
-no_size stop rule a is e h = let both = sym is ∙ (rw e at h) in cc
-
--- an element that is formed, or want of memory
+-- ---- an element that is formed, or want of memory
 pub formed-is : {E : Type 0} (of : Checked Element) (result : Result Element E) (e : Element) → Agrees of (Ok e) → IfOk result (λ it. of ≡ Ok it) → IfOk result (λ it. it ≡ e)
 formed-is of (Ok it) e h is = let same : Ok e ≡ Ok it = rw is at h in cc
 formed-is of (Err x) e h is = tt
