@@ -1,2 +1,3 @@
+pub mod AppendedLists
 pub mod LiftedPolynomials
 pub mod VariablePolynomial

@@ -15,7 +15,10 @@ fn own_denominator<E: Arith>(alloc: Global, element: &Over<E>) -> Result<Poly<Ov
     ensures { IfOk result (λ it. it ≡ spec.own_denominator E.ops element.now) }
 {
     match element {
-        Over::Below(_) => Poly::one(alloc),
+        Over::Below(_) => match Poly::one(alloc) {
+            Ok(one) => lifted(alloc, &one),
+            Err(error) => Err(error),
+        },
         Over::Quotient(ratio) => lifted(alloc, &ratio.den),
     }
 }
@@ -48,8 +51,12 @@ impl<E: Denominator> Denominator for Over<E> {
         if down == 0 {
             return own_denominator(alloc, self);
         }
-        let element = lowered_element(alloc, self)?;
-        let below = element.denominator(alloc, down - 1)?;
-        lifted(alloc, &below)
+        match lowered_element(alloc, self) {
+            Ok(element) => match element.denominator(alloc, down - 1) {
+                Ok(below) => lifted(alloc, &below),
+                Err(error) => Err(error),
+            },
+            Err(error) => Err(error),
+        }
     }
 }
