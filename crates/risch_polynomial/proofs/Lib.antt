@@ -1,1 +1,2 @@
 pub mod CoefficientLists
+pub mod CoefficientSteps

@@ -2,7 +2,7 @@
 //!
 //! What forms a coefficient writes it to a list, in the order in which the values are formed, and ends at the first that cannot be formed.
 
-ghost use Rattle.std.specs.Prelude.{◌≡◌, ◌≤◌, ◌+◌, vec_len, ◌++◌, length, IfOk, OnOk, replicate};
+ghost use Rattle.std.specs.Prelude.{◌≡◌, ◌≤◌, ◌+◌, vec_len, ◌++◌, ◌∷◌, [], length, IfOk, OnOk, replicate};
 ghost use Rattle.risch_field.specs.Checked.{Agrees, AgreesWith};
 ghost use Rattle.risch_polynomial.specs.Poly as poly;
 
@@ -58,13 +58,40 @@ pub(crate) fn same_items<E: Arith>(left: &[E], right: &[E]) -> bool
     true
 }
 
+/// Appends c.
+pub(crate) fn push_item<E: Drop>(to: &mut Vec<E>, item: E) -> Result<(), AllocError>
+    ensures { OnOk result (to.new.items ≡ to.old.items ++ item ∷ []) }
+{
+    Ok(to.push(item)?)
+}
+
+/// Appends c once more.
+fn push_copy<E: Arith>(alloc: Global, to: &mut Vec<E>, item: &E) -> Result<(), AllocError>
+    ensures { OnOk result (to.new.items ≡ to.old.items ++ item.now ∷ []) }
+{
+    match item.copy(alloc) {
+        Ok(copy) => push_item(to, copy),
+        Err(error) => Err(error),
+    }
+}
+
+/// Appends -c.
+fn push_negative<E: Arith>(alloc: Global, to: &mut Vec<E>, item: &E) -> Result<(), AllocError>
+    ensures { OnOk result (to.new.items ≡ to.old.items ++ E.ops.negative item.now ∷ []) }
+{
+    match item.neg(alloc) {
+        Ok(negative) => push_item(to, negative),
+        Err(error) => Err(error),
+    }
+}
+
 /// 0, 0, .., as many as `count`.
 pub fn zeros<E: Arith>(alloc: Global, count: usize) -> Result<Vec<E>, AllocError>
     ensures { IfOk result (λ zeros. zeros.items ≡ replicate count E.ops.zero) }
 {
     let mut zeros = Vec::new(alloc);
     for _i in 0..count {
-        zeros.push(E::zero())?;
+        push_item(&mut zeros, E::zero())?;
     }
     Ok(zeros)
 }
@@ -74,7 +101,7 @@ pub fn push_copies<E: Arith>(alloc: Global, to: &mut Vec<E>, from: &[E]) -> Resu
     ensures { OnOk result (to.new.items ≡ to.old.items ++ from.now) }
 {
     for item in from {
-        to.push(item.copy(alloc)?)?;
+        push_copy(alloc, to, item)?;
     }
     Ok(())
 }
@@ -88,7 +115,7 @@ pub(crate) fn push_negatives<E: Arith>(
     ensures { OnOk result (to.new.items ≡ to.old.items ++ poly.negatives E.ops from.now) }
 {
     for item in from {
-        to.push(item.neg(alloc)?)?;
+        push_negative(alloc, to, item)?;
     }
     Ok(())
 }
@@ -104,8 +131,10 @@ pub(crate) fn push_sums<E: Arith>(
 {
     let both = left.len().min(right.len());
     for i in 0..both {
-        let sum = left[i].add(alloc, &right[i])?;
-        sums.push(sum)?;
+        match left[i].add(alloc, &right[i]) {
+            Ok(sum) => push_item(sums, sum)?,
+            Err(fail) => return Err(fail),
+        }
     }
     push_copies(alloc, sums, &left[both..])?;
     push_copies(alloc, sums, &right[both..])?;
@@ -122,8 +151,10 @@ pub(crate) fn push_scaled<E: Arith>(
     ensures { AgreesWith result scaled.new.items (poly.scaled_onto E.ops scaled.old.items by.now items.now) }
 {
     for i in 0..items.len() {
-        let product = by.mul(alloc, &items[i])?;
-        scaled.push(product)?;
+        match by.mul(alloc, &items[i]) {
+            Ok(product) => push_item(scaled, product)?,
+            Err(fail) => return Err(fail),
+        }
     }
     Ok(())
 }
@@ -149,7 +180,7 @@ pub(crate) fn push_multiples<E: Arith>(
 {
     for i in 0..items.len() {
         let product = multiple(alloc, (i + 1) as u16, &items[i])?;
-        multiples.push(product)?;
+        push_item(multiples, product)?;
     }
     Ok(())
 }
@@ -158,11 +189,7 @@ pub(crate) fn push_multiples<E: Arith>(
 fn signed<E: Arith>(alloc: Global, minus: bool, term: E) -> Result<E, AllocError>
     ensures { IfOk result (λ it. it ≡ poly.signed E.ops minus term) }
 {
-    if minus {
-        Ok(term.neg(alloc)?)
-    } else {
-        Ok(term)
-    }
+    if minus { term.neg(alloc) } else { Ok(term) }
 }
 
 /// Adds ±c·q_j to the coefficient at `from` + j, for j = 0, 1, ..
@@ -198,9 +225,11 @@ pub(crate) fn add_rows<E: Arith>(
     ensures { AgreesWith result sums.new.items (poly.rows E.ops sums.old.items 0 left.now right.now) }
 {
     for i in 0..left.len() {
-        if !left[i].is_zero() {
-            add_row(alloc, false, sums, i, &left[i], right)?;
+        let factor = &left[i];
+        if factor.is_zero() {
+            continue;
         }
+        add_row(alloc, false, sums, i, factor, right)?;
     }
     Ok(())
 }
