@@ -1,5 +1,5 @@
 -- The lines of an answer, one after the other.
-use Rattle.std.proofs.Common.{◌≡◌, ℕ, suc, ◌+◌, ◌<◌, ◌^◌, List, [], ◌∷◌, ◌++◌, length, map, Bool, true, false, Option, Some, None, Result, Ok, Err, refl, sym, ap, ◌∙◌, arith, length-append, append_assoc}
+use Rattle.std.proofs.Common.{◌≡◌, ℕ, suc, ◌+◌, ◌<◌, ◌^◌, List, [], ◌∷◌, ◌++◌, length, map, Bool, Option, Some, None, Result, Ok, Err, refl, sym, ap, ◌∙◌, arith, length-append, append_assoc}
 use Rattle.std.specs.Prelude.{option_map, All, codes, OnOk, IfOk, IfErr}
 use Rattle.std.proofs.lemmas.List.{map-append}
 use Rattle.std.proofs.lemmas.List.Elements.{All-nil, All-push}
@@ -15,12 +15,13 @@ use Rattle.risch_expression.specs.declared.names.Names.{Names}
 use Rattle.risch_text.specs.Lines.{Front, moved, Reached, reached, behind_word, wanted, fixed, line_end, to_line_end, sum_of, bare_line, expression_line, InFile}
 use Rattle.risch_text.specs.File.{monomials}
 use Rattle.risch_text.specs.Certified.{LogLine, log_line, sum_line, with_z, factor, after_log, after_sum, LogLines, next_log, log_lines, log_lines_from, with_log, AnswerTree, end_line, is_refuted, partial_lines, integral_end, refutation_end, answer_end, answer_lines}
-use Rattle.risch_text.specs.Programs.{log_program, answer_program, IsLogOver, IsPartialOver}
-use Rattle.risch_text.specs.Reading.{IsSum, IsLogLine, IsSomeLog, IsNextFault, AreLogLines, IsSomeEnd, IsPartialRead, IsAnswerRead, IsSomeAnswer}
+use Rattle.risch_text.specs.Programs.{log_program, partial_program, ended_program, refuted_program, IsLogOver, IsPartialOver}
+use Rattle.risch_text.specs.Reading.{IsSum, IsLogLine, IsSomeLog, IsNextFault, AreLogLines, IsSomeEnd, IsNextEnd, IsPartialRead, IsAnswerRead, IsSomeAnswer}
 use Rattle.risch_text.specs.declared.programs.Factor.{Factor}
 use Rattle.risch_text.specs.declared.programs.LogProgram.{LogProgram}
 use Rattle.risch_text.specs.declared.programs.LogProgram.TheVariants.{Log, Sum}
 use Rattle.risch_text.specs.declared.programs.LogPrograms.{LogPrograms}
+use Rattle.risch_text.specs.declared.programs.PartialProgram.{PartialProgram}
 use Rattle.risch_text.specs.declared.programs.EndProgram.{EndProgram}
 use Rattle.risch_text.specs.declared.programs.AnswerProgram.{AnswerProgram}
 use Rattle.risch_expression.specs.declared.program.Step.{Step}
@@ -228,7 +229,7 @@ part_fault n first front Memory h = tt
 module _ (n first : ℕ) (front after : Front) (part : List Step) (p : IsSum (monomials n) (expression_line (codes "part") (monomials n) front) part after) where
   pub partial_read : (programs : LogPrograms) (next : Front) →
       AreLogLines n 2 (log_lines n (length after.rest) (record { logs = []; lines = first ∷ front.line ∷ [] }) after) programs next →
-      IsPartialRead n (partial_lines n first front) (record { part = part; logs = programs.logs; refutation = None; lines = programs.lines }) next
+      IsPartialRead n (partial_lines n first front) (record { part = part; so_far = record { logs = programs.logs; lines = programs.lines } }) next
   unfolding partial_lines
   partial_read programs next l = record {
     tree = record { part = p.tree; logs = l.lines.logs; refutation = None; lines = l.lines.lines };
@@ -242,27 +243,26 @@ module _ (n first : ℕ) (front after : Front) (part : List Step) (p : IsSum (mo
   partial_fault (Syntax f) h = rw (p.is, h) refl
   partial_fault Memory h = tt
 
-module _ (n : ℕ) (tree : AnswerTree) (partial : AnswerProgram) (written : partial ≡ answer_program tree) (over : IsPartialOver (n + 1) tree) (front : Front) where
+module _ (n : ℕ) (tree : AnswerTree) (partial : PartialProgram) (written : partial ≡ partial_program tree) (over : IsPartialOver (n + 1) tree) (front : Front) where
   -- the end of an integral
-  pub integral_read : (next : Front) (lines : List ℕ) → bare_line (codes "end") front ≡ Ok next → lines ≡ partial.lines ++ front.line ∷ [] →
-      IsAnswerRead n (integral_end tree front) (record { part = partial.part; logs = partial.logs; refutation = partial.refutation; lines = lines }) next
+  pub integral_read : (next : Front) (lines : List ℕ) → bare_line (codes "end") front ≡ Ok next → lines ≡ partial.so_far.lines ++ front.line ∷ [] →
+      IsAnswerRead n (integral_end tree front) (ended_program partial lines None) next
   unfolding integral_end
   integral_read next lines e is = record {
     tree = record { part = tree.part; logs = tree.logs; refutation = tree.refutation; lines = tree.lines ++ front.line ∷ [] };
     is = rw e refl;
-    written = rw (is, written) refl;
+    written = rw (is, written, over.unrefuted) refl;
     over = rw over.unrefuted (record { part = over.part; logs = over.logs; refutation = tt; numbered = omega (arith, over.numbered, length-append tree.lines (front.line ∷ [])) });
   }
 
   -- the rest and the end of a refutation
   module _ (after : Front) (rest : List Step) (r : IsSum (monomials n) (expression_line (codes "rest") (monomials n) front) rest after) where
-    pub refutation_read : (end : EndProgram) (next : Front) (first_lines lines : List ℕ) → IsSomeEnd n (end_line n after) end next → first_lines ≡ partial.lines ++ front.line ∷ [] →
-        lines ≡ first_lines ++ after.line ∷ [] →
-        IsAnswerRead n (refutation_end n tree front) (record { part = partial.part; logs = partial.logs; refutation = Some (record { rest = rest; end = end }); lines = lines }) next
+    refutation_read : (end : EndProgram) (next : Front) (first_lines lines : List ℕ) → IsSomeEnd n (end_line n after) end next → first_lines ≡ partial.so_far.lines ++ front.line ∷ [] →
+        lines ≡ first_lines ++ after.line ∷ [] → IsAnswerRead n (refutation_end n tree front) (ended_program partial lines (refuted_program rest end)) next
     unfolding refutation_end
     refutation_read end next first_lines lines s first is =
-        let both : lines ≡ tree.lines ++ front.line ∷ after.line ∷ [] = is ∙ ap (λ ls. ls ++ after.line ∷ []) first ∙ append_assoc partial.lines (front.line ∷ []) (after.line ∷ [])
-        ∙ ap (λ (a : AnswerProgram). a.lines ++ front.line ∷ after.line ∷ []) written in
+        let both : lines ≡ tree.lines ++ front.line ∷ after.line ∷ [] = is ∙ ap (λ ls. ls ++ after.line ∷ []) first ∙ append_assoc partial.so_far.lines (front.line ∷ []) (after.line ∷ [])
+        ∙ ap (λ (a : PartialProgram). a.so_far.lines ++ front.line ∷ after.line ∷ []) written in
         record {
           tree = record { part = tree.part; logs = tree.logs; refutation = Some (record { rest = r.tree; end = s.tree }); lines = tree.lines ++ front.line ∷ after.line ∷ [] };
           is = rw (r.is, s.is) refl;
@@ -275,17 +275,18 @@ module _ (n : ℕ) (tree : AnswerTree) (partial : AnswerProgram) (written : part
           };
         }
 
-    pub refutation_unread : (next : Front) → end_line n after ≡ Ok (record { value = None; front = next }) → refutation_end n tree front ≡ Ok (record { value = None; front = next })
+    refutation_unread : (next : Front) → end_line n after ≡ Ok (record { value = None; front = next }) → refutation_end n tree front ≡ Ok (record { value = None; front = next })
     unfolding refutation_end
     refutation_unread next e = rw (r.is, e) refl
+
+    pub refutation_ended : (end : Option EndProgram) (next : Front) (first_lines lines : List ℕ) → IsNextEnd n (end_line n after) end next → first_lines ≡ partial.so_far.lines ++ front.line ∷ [] →
+        lines ≡ first_lines ++ after.line ∷ [] → IsSomeAnswer n (refutation_end n tree front) (option_map (ended_program partial lines) (option_map (refuted_program rest) end)) next
+    refutation_ended None next first_lines lines e first is = refutation_unread next e
+    refutation_ended (Some end) next first_lines lines e first is = refutation_read end next first_lines lines e first is
 
 pub integral_end_fault : (tree : AnswerTree) (front : Front) (fault : SyntaxFault) → bare_line (codes "end") front ≡ Err fault → integral_end tree front ≡ Err fault
 unfolding integral_end
 integral_end_fault tree front fault e = rw e refl
-
-pub integral_fault : (tree : AnswerTree) (front : Front) (fault : ReadFault) → IsFaultOf fault (bare_line (codes "end") front) → IsFaultOf fault (integral_end tree front)
-integral_fault tree front (Syntax f) h = integral_end_fault tree front f h
-integral_fault tree front Memory h = tt
 
 pub rest_fault : (n : ℕ) (tree : AnswerTree) (front : Front) (fault : ReadFault) → IsFaultOf fault (expression_line (codes "rest") (monomials n) front) → IsFaultOf fault (refutation_end n tree front)
 unfolding refutation_end
@@ -309,33 +310,16 @@ module _ (n : ℕ) (front after : Front) (refuted : Bool) (first : is_refuted fr
   partial_lines_fault (Syntax f) h = rw (first, h) refl
   partial_lines_fault Memory h = tt
 
-  module _ (partial : AnswerProgram) (behind : Front) (p : IsPartialRead n (partial_lines n front.line after) partial behind) where
+  module _ (partial : PartialProgram) (behind : Front) (p : IsPartialRead n (partial_lines n front.line after) partial behind) where
     lines_are : answer_lines n front ≡ answer_end n refuted p.tree behind
     unfolding answer_lines
     lines_are = let is = p.is in rw (first, is) refl
 
-    pub answer_ended : (program : Option AnswerProgram) (next : Front) → IsSomeAnswer n (answer_end n refuted p.tree behind) program next → IsSomeAnswer n (answer_lines n front) program next
-    answer_ended program next h = rw lines_are h
+    pub answer_ended : (result : Result (Option AnswerProgram) ReadFault) (next : Front) →
+        ((tree : AnswerTree) → partial ≡ partial_program tree → IsPartialOver (n + 1) tree → IfOk result (λ program. IsSomeAnswer n (answer_end n refuted tree behind) program next)) →
+        IfOk result (λ program. IsSomeAnswer n (answer_lines n front) program next)
+    answer_ended result next h = rw lines_are (h p.tree p.written p.over)
 
-    pub answer_end_fault : (fault : ReadFault) → IsFaultOf fault (answer_end n refuted p.tree behind) → IsFaultOf fault (answer_lines n front)
-    answer_end_fault fault h = rw lines_are h
-
-module _ (n : ℕ) (front after behind : Front) (partial : AnswerProgram) (p : IsPartialRead n (partial_lines n front.line after) partial behind) where
-  pub refuted_answer : (result : Result (Option AnswerProgram) ReadFault) (next : Front) → is_refuted front ≡ Ok (record { value = true; front = after }) →
-      ((tree : AnswerTree) → partial ≡ answer_program tree → IsPartialOver (n + 1) tree → IfOk result (λ program. IsSomeAnswer n (refutation_end n tree behind) program next)) →
-      IfOk result (λ program. IsSomeAnswer n (answer_lines n front) program next)
-  refuted_answer (Ok program) next first h = answer_ended n front after true first partial behind p program next (h p.tree p.written p.over)
-  refuted_answer (Err fault) next first h = tt
-
-  pub refuted_answer_fault : (result : Result (Option AnswerProgram) ReadFault) → is_refuted front ≡ Ok (record { value = true; front = after }) →
-      ((tree : AnswerTree) → IfErr result (λ fault. IsFaultOf fault (refutation_end n tree behind))) → IfErr result (λ fault. IsFaultOf fault (answer_lines n front))
-  refuted_answer_fault (Ok program) first h = tt
-  refuted_answer_fault (Err fault) first h = answer_end_fault n front after true first partial behind p fault (h p.tree)
-
-  pub integral_answer : (program : AnswerProgram) (next : Front) → is_refuted front ≡ Ok (record { value = false; front = after }) →
-      ((tree : AnswerTree) → partial ≡ answer_program tree → IsPartialOver (n + 1) tree → IsAnswerRead n (integral_end tree behind) program next) → IsSomeAnswer n (answer_lines n front) (Some program) next
-  integral_answer program next first h = answer_ended n front after false first partial behind p (Some program) next (h p.tree p.written p.over)
-
-  pub integral_answer_fault : (fault : ReadFault) → is_refuted front ≡ Ok (record { value = false; front = after }) → ((tree : AnswerTree) → IsFaultOf fault (integral_end tree behind)) →
-      IsFaultOf fault (answer_lines n front)
-  integral_answer_fault fault first h = answer_end_fault n front after false first partial behind p fault (h p.tree)
+    pub answer_end_fault : (result : Result (Option AnswerProgram) ReadFault) → ((tree : AnswerTree) → IfErr result (λ fault. IsFaultOf fault (answer_end n refuted tree behind))) →
+        IfErr result (λ fault. IsFaultOf fault (answer_lines n front))
+    answer_end_fault result h = rw lines_are (h p.tree)

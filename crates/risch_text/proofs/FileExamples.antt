@@ -1,5 +1,5 @@
 -- Files as they are read: each fault of lines once, refusals, and the numbers of lines.
-use Rattle.std.proofs.Common.{◌≡◌, refl, [], ◌∷◌, Ok, None, Some, true, false, negsuc, pos}
+use Rattle.std.proofs.Common.{◌≡◌, refl, [], ◌∷◌, Ok, Err, None, Some, true, false, negsuc, pos}
 use Rattle.std.specs.Prelude.{codes}
 use Rattle.risch_frac.specs.Gcd
 use Rattle.risch_frac.specs.Fraction
@@ -17,10 +17,11 @@ use Rattle.risch_expression.specs.Evaluation
 use Rattle.risch_expression.specs.Tree.{number, variable, root, product, quotient, power}
 use Rattle.risch_expression.specs.declared.fault.Cause.TheVariants.{Byte, End, Wide, Name, Trailing, Shape}
 use Rattle.risch_text.specs.Lines
+use Rattle.risch_text.specs.Lines.{from_line}
 use Rattle.risch_text.specs.File
 use Rattle.risch_text.specs.File.{whole_problem}
 use Rattle.risch_text.specs.Certified
-use Rattle.risch_text.specs.Certified.{log_line, sum_line, whole_certified}
+use Rattle.risch_text.specs.Certified.{log_line, sum_line, end_line, answer_lines, whole_certified}
 use Rattle.risch_text.specs.Values
 use Rattle.risch_text.specs.Read.{read_problem}
 use Rattle.risch_text.specs.ReadCertified.{read_certified}
@@ -110,15 +111,15 @@ answer : whole_certified (codes "integrate 0\nintegral\npart 0\nlog -1/2 of x\n\
 unfolding reading
 answer = refl
 
-refutation : whole_certified (codes "integrate 0\nrefuted\npart 0\nlog 1 of x\nrest 0\nend residue of x power 65535 trace x\n") ≡ Ok (Some (record {
-  problem = record { tower = []; integrand = number 0 };
-  answer = record {
+refutation : answer_lines 0 (from_line 2 (codes "refuted\npart 0\nlog 1 of x\nrest 0\nend residue of x power 65535 trace x\n")) ≡ Ok (record {
+  value = Some (record {
     part = number 0;
     logs = log_line (record { top = record { num = pos 1; den = 1 }; bottom = None }) (variable 0) ∷ [];
     refutation = Some (record { rest = number 0; end = record { level = 0; power = 65535; trace = variable 0 } });
     lines = 2 ∷ 3 ∷ 4 ∷ 5 ∷ 6 ∷ [];
-  };
-}))
+  });
+  front = record { rest = []; line = 7; start = 0 };
+})
 unfolding reading
 refutation = refl
 
@@ -152,15 +153,16 @@ other_end : read_certified (codes "integrate 0\nrefuted\npart 0\nrest x\nend res
 unfolding reading
 other_end = refl
 
-unknown_variable : read_certified (codes "integrate 0\nrefuted\npart 0\nrest x\nend residue of t1 power 1 trace x\n") ≡ certified.Syntax 49 Name
+-- The faults of an end, where so many bytes are left.
+unknown_variable : end_line 0 (from_line 5 (codes "end residue of t1 power 1 trace x\n")) ≡ Err (record { left = 19; cause = Name })
 unfolding reading
 unknown_variable = refl
 
-no_variable : read_certified (codes "integrate 0\nrefuted\npart 0\nrest x\nend residue of 1 power 1 trace x\n") ≡ certified.Syntax 49 Byte
+no_variable : end_line 0 (from_line 5 (codes "end residue of 1 power 1 trace x\n")) ≡ Err (record { left = 18; cause = Byte })
 unfolding reading
 no_variable = refl
 
-wide_power : read_certified (codes "integrate 0\nrefuted\npart 0\nrest x\nend residue of x power 65536 trace x\n") ≡ certified.Syntax 57 Wide
+wide_power : end_line 0 (from_line 5 (codes "end residue of x power 65536 trace x\n")) ≡ Err (record { left = 14; cause = Wide })
 unfolding reading
 wide_power = refl
 

@@ -9,6 +9,7 @@ use Rattle.risch_text.specs.declared.programs.TowerProgram.{TowerProgram}
 use Rattle.risch_text.specs.declared.programs.ProblemProgram.{ProblemProgram}
 use Rattle.risch_text.specs.declared.programs.LogProgram.{LogProgram}
 use Rattle.risch_text.specs.declared.programs.LogProgram.TheVariants.{Log, Sum}
+use Rattle.risch_text.specs.declared.programs.PartialProgram.{PartialProgram}
 use Rattle.risch_text.specs.declared.programs.EndProgram.{EndProgram}
 use Rattle.risch_text.specs.declared.programs.RefutationProgram.{RefutationProgram}
 use Rattle.risch_text.specs.declared.programs.AnswerProgram.{AnswerProgram}
@@ -61,9 +62,17 @@ refutation_program r = record { rest = steps r.rest; end = end_program r.end }
 abbrev pub answer_program : AnswerTree → AnswerProgram
 answer_program a = record { part = steps a.part; logs = map log_program a.logs; refutation = option_map refutation_program a.refutation; lines = a.lines }
 
--- an answer so far with this refutation, and with lines of these numbers
-abbrev pub refuted_program : AnswerProgram → List ℕ → RefutationProgram → AnswerProgram
-refuted_program partial lines r = record { part = partial.part; logs = partial.logs; refutation = Some r; lines = lines }
+-- the part and the logarithms of an answer
+abbrev pub partial_program : AnswerTree → PartialProgram
+partial_program a = record { part = steps a.part; so_far = record { logs = map log_program a.logs; lines = a.lines } }
+
+-- a part and logarithms, with a refutation where there is one, and with lines of these numbers
+abbrev pub ended_program : PartialProgram → List ℕ → Option RefutationProgram → AnswerProgram
+ended_program partial lines r = record { part = partial.part; logs = partial.so_far.logs; refutation = r; lines = lines }
+
+-- the refutation with this rest and this end
+abbrev pub refuted_program : List Step → EndProgram → Option RefutationProgram
+refuted_program rest end = Some (record { rest = rest; end = end })
 
 abbrev pub certified_program : CertifiedTree → CertifiedProgram
 certified_program t = record { problem = problem_program t.problem; answer = answer_program t.answer }

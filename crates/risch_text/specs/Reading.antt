@@ -12,13 +12,14 @@ use Rattle.risch_text.specs.Lines.{Front, Reached, reached}
 use Rattle.risch_text.specs.File.{TowerLine, ProblemTree}
 use Rattle.risch_text.specs.Certified.{LogLine, LogLines, EndTree, AnswerTree, CertifiedTree}
 use Rattle.risch_text.specs.Values.{Reading}
-use Rattle.risch_text.specs.Programs.{tower_program, problem_program, AreOver, IsProblemOver, log_program, end_program, answer_program, certified_program, IsLogOver, IsEndOver, IsPartialOver, IsAnswerOver, IsCertifiedOver}
+use Rattle.risch_text.specs.Programs.{tower_program, problem_program, AreOver, IsProblemOver, log_program, end_program, partial_program, answer_program, certified_program, IsLogOver, IsEndOver, IsPartialOver, IsAnswerOver, IsCertifiedOver}
 use Rattle.risch_text.specs.declared.fault.Fault.{Fault}
 use Rattle.risch_text.specs.declared.fault.Fault.TheVariants.{Syntax, Refused, Stopped, Memory}
 use Rattle.risch_text.specs.declared.programs.TowerProgram.{TowerProgram}
 use Rattle.risch_text.specs.declared.programs.ProblemProgram.{ProblemProgram}
 use Rattle.risch_text.specs.declared.programs.LogProgram.{LogProgram}
 use Rattle.risch_text.specs.declared.programs.LogPrograms.{LogPrograms}
+use Rattle.risch_text.specs.declared.programs.PartialProgram.{PartialProgram}
 use Rattle.risch_text.specs.declared.programs.EndProgram.{EndProgram}
 use Rattle.risch_text.specs.declared.programs.AnswerProgram.{AnswerProgram}
 use Rattle.risch_text.specs.declared.programs.CertifiedProgram.{CertifiedProgram}
@@ -150,10 +151,10 @@ IsNextEnd n rule (Some program) front = IsSomeEnd n rule program front
 IsNextEnd n rule None front = rule ≡ Ok (reached None front)
 
 -- the part and the logarithms of an answer are read, behind its first line
-pub record IsPartialRead (n : ℕ) (rule : Read (Reached AnswerTree)) (program : AnswerProgram) (front : Front) : Type 0 where
+pub record IsPartialRead (n : ℕ) (rule : Read (Reached AnswerTree)) (program : PartialProgram) (front : Front) : Type 0 where
   pub tree : AnswerTree
   pub is : rule ≡ Ok (reached tree front)
-  pub written : program ≡ answer_program tree
+  pub written : program ≡ partial_program tree
   pub over : IsPartialOver (n + 1) tree
 
 -- the lines of an answer are read

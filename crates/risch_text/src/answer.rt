@@ -1,24 +1,25 @@
 //! The lines of a printed answer.
 
-ghost use Rattle.std.specs.Prelude.{◌≡◌, ◌+◌, ◌<◌, ◌≤◌, ◌^◌, [], ◌∷◌, ◌++◌, length, codes, option_map, Ok, IfOk, IfErr, OnOk, OnErr};
+ghost use Rattle.std.specs.Prelude.{◌≡◌, ℕ, ◌+◌, ◌<◌, ◌≤◌, ◌^◌, [], ◌∷◌, ◌++◌, length, codes, option_map, Ok, IfOk, IfErr, OnOk, OnErr};
 ghost use Rattle.risch_frac.specs.Fraction as fraction;
 ghost use Rattle.risch_expression.specs.Reading.{IsFaultOf};
-ghost use Rattle.risch_text.specs.Lines.{bare_line, InFile};
+ghost use Rattle.risch_text.specs.Lines.{expression_line, InFile};
+ghost use Rattle.risch_text.specs.File as file;
 ghost use Rattle.risch_text.specs.Certified as spec;
 ghost use Rattle.risch_text.specs.Certified.{AnswerTree};
-ghost use Rattle.risch_text.specs.Programs.{answer_program, refuted_program, IsPartialOver};
-ghost use Rattle.risch_text.specs.declared.programs.AnswerProgram.{AnswerProgram};
-ghost use Rattle.risch_text.specs.Reading.{MovesTo, IsLogLine, IsNextLog, IsNextFault, AreLogLines, IsPartialRead, IsNextEnd, IsAnswerRead, IsSomeAnswer, IsWholeCertified};
+ghost use Rattle.risch_text.specs.Programs.{partial_program, ended_program, refuted_program, IsPartialOver};
+ghost use Rattle.risch_text.specs.declared.programs.PartialProgram.{PartialProgram};
+ghost use Rattle.risch_text.specs.Reading.{MovesTo, IsSum, IsLogLine, IsNextLog, IsNextFault, AreLogLines, IsPartialRead, IsNextEnd, IsSomeAnswer, IsWholeCertified};
 
 use crate::file::{monomials, problem_lines};
 use crate::lines::Lines;
 use crate::programs::{
     AnswerProgram, CertifiedProgram, Divisor, EndProgram, Factor, LogProgram, LogPrograms,
-    RefutationProgram,
+    PartialProgram, RefutationProgram,
 };
 use crate::refutation::end_line;
 use risch_elem::{Items, NumberList};
-use risch_expression::{Names, ReadFault, SyntaxFault};
+use risch_expression::{Names, Program, ReadFault, SyntaxFault};
 use risch_frac::Frac;
 use std::alloc::{AllocError, Global};
 
@@ -120,31 +121,28 @@ impl LogPrograms {
     }
 }
 
-/// The logarithms that stand next, over n monomials, behind lines with these numbers.
+/// The logarithms that stand next, over n monomials, behind none, with the numbers of their lines behind those of the lines above.
 #[tactic(auto, using(crate::proofs::AnswerLines::logs_begin, crate::proofs::AnswerLines::logs_stop, crate::proofs::AnswerLines::logs_done, crate::proofs::AnswerLines::logs_more, crate::proofs::AnswerLines::logs_fault))]
 fn log_lines(
     alloc: Global,
     lines: &mut Lines<'_>,
     n: u8,
-    numbers: NumberList,
-) -> Result<LogPrograms, ReadFault>
-    requires { InFile lines.old }
-    ensures read { IfOk result (λ programs. AreLogLines n (length numbers) (spec.log_lines n (length lines.old.rest) (record { logs = []; lines = numbers }) lines.old) programs lines.new) }
-    ensures fault { IfErr result (λ fault. IsFaultOf fault (spec.log_lines n (length lines.old.rest) (record { logs = []; lines = numbers }) lines.old)) }
+    so_far: &mut LogPrograms,
+) -> Result<(), ReadFault>
+    requires in_file { InFile lines.old }
+    requires none { so_far.old.logs ≡ [] }
+    ensures read { OnOk result (AreLogLines n (length so_far.old.lines) (spec.log_lines n (length lines.old.rest) (record { logs = []; lines = so_far.old.lines }) lines.old) so_far.new lines.new) }
+    ensures fault { IfErr result (λ fault. IsFaultOf fault (spec.log_lines n (length lines.old.rest) (record { logs = []; lines = so_far.old.lines }) lines.old)) }
     ensures in_file { OnOk result (InFile lines.new) }
 {
-    let mut programs = LogPrograms {
-        logs: Items::new(alloc),
-        lines: numbers,
-    };
     for _turn in 0..lines.left() {
         let line = lines.line();
         let Some(log) = next_log(alloc, lines, n)? else {
-            return Ok(programs);
+            return Ok(());
         };
-        programs.push(line as u32, log)?;
+        so_far.push(line as u32, log)?;
     }
-    Ok(programs)
+    Ok(())
 }
 
 /// Whether the first line of an answer is `refuted`, and not `integral`.
@@ -163,57 +161,62 @@ fn is_refuted(lines: &mut Lines<'_>) -> Result<bool, SyntaxFault>
     Ok(true)
 }
 
+/// The part of an answer, over n monomials, behind its first line, which has this number.
+fn part_line(
+    alloc: Global,
+    lines: &mut Lines<'_>,
+    n: u8,
+    first: u32,
+) -> Result<PartialProgram, ReadFault>
+    requires { InFile lines.old }
+    ensures read { IfOk result (λ partial. IsSum (file.monomials n) (expression_line (codes "part") (file.monomials n) lines.old) partial.part lines.new) }
+    ensures so_far { IfOk result (λ partial. partial.so_far ≡ record { logs = []; lines = first ∷ lines.old.line ∷ [] }) }
+    ensures fault { IfErr result (λ fault. IsFaultOf fault (expression_line (codes "part") (file.monomials n) lines.old)) }
+    ensures in_file { OnOk result (InFile lines.new) }
+{
+    let mut numbers = NumberList::new(alloc);
+    numbers.push(first)?;
+    let part = lines.numbered_line(alloc, b"part", monomials(n), &mut numbers)?;
+    Ok(PartialProgram {
+        part,
+        so_far: LogPrograms {
+            logs: Items::new(alloc),
+            lines: numbers,
+        },
+    })
+}
+
 /// The part and the logarithms of an answer, over n monomials, behind its first line, which has this number.
 fn partial_lines(
     alloc: Global,
     lines: &mut Lines<'_>,
     n: u8,
     first: u32,
-) -> Result<AnswerProgram, ReadFault>
+) -> Result<PartialProgram, ReadFault>
     requires { InFile lines.old }
     ensures read { IfOk result (λ program. IsPartialRead n (spec.partial_lines n first lines.old) program lines.new) }
     ensures fault { IfErr result (λ fault. IsFaultOf fault (spec.partial_lines n first lines.old)) }
     ensures in_file { OnOk result (InFile lines.new) }
 {
-    let mut numbers = NumberList::new(alloc);
-    numbers.push(first)?;
-    let part = lines.numbered_line(alloc, b"part", monomials(n), &mut numbers)?;
-    let LogPrograms { logs, lines } = log_lines(alloc, lines, n, numbers)?;
-    Ok(AnswerProgram {
-        part,
-        logs,
-        refutation: None,
-        lines,
-    })
+    let mut partial = part_line(alloc, lines, n, first)?;
+    log_lines(alloc, lines, n, &mut partial.so_far)?;
+    Ok(partial)
 }
 
-/// The line `end` of an integral, whose number is put behind those of the lines above.
-fn end_of_integral(lines: &mut Lines<'_>, numbers: &mut NumberList) -> Result<(), ReadFault>
+/// The end of an integral, with the number of its line behind those of an answer so far.
+fn integral_end(
+    lines: &mut Lines<'_>,
+    numbers: &mut NumberList,
+) -> Result<Option<Option<RefutationProgram>>, ReadFault>
     requires { InFile lines.old }
-    ensures read { OnOk result (bare_line (codes "end") lines.old ≡ Ok lines.new) }
-    ensures numbered { OnOk result (numbers.new ≡ numbers.old ++ lines.old.line ∷ []) }
-    ensures fault { IfErr result (λ fault. IsFaultOf fault (bare_line (codes "end") lines.old)) }
+    ensures read { (n : ℕ) (tree : AnswerTree) (partial : PartialProgram) → partial ≡ partial_program tree → IsPartialOver (n + 1) tree → numbers.old ≡ partial.so_far.lines → IfOk result (λ found. IsSomeAnswer n (spec.integral_end tree lines.old) (option_map (ended_program partial numbers.new) found) lines.new) }
+    ensures fault { (tree : AnswerTree) → IfErr result (λ fault. IsFaultOf fault (spec.integral_end tree lines.old)) }
     ensures in_file { OnOk result (InFile lines.new) }
 {
     let last = lines.line();
     lines.bare_line(b"end")?;
     numbers.push(last as u32)?;
-    Ok(())
-}
-
-/// An answer so far, and the end of an integral, over n monomials.
-fn integral_end(
-    lines: &mut Lines<'_>,
-    n: u8,
-    mut partial: AnswerProgram,
-) -> Result<AnswerProgram, ReadFault>
-    requires { InFile lines.old }
-    ensures read { (tree : AnswerTree) → partial ≡ answer_program tree → IsPartialOver (n + 1) tree → IfOk result (λ program. IsAnswerRead n (spec.integral_end tree lines.old) program lines.new) }
-    ensures fault { (tree : AnswerTree) → IfErr result (λ fault. IsFaultOf fault (spec.integral_end tree lines.old)) }
-    ensures in_file { OnOk result (InFile lines.new) }
-{
-    end_of_integral(lines, &mut partial.lines)?;
-    Ok(partial)
+    Ok(Some(None))
 }
 
 /// What stands behind the line `rest`, over n monomials, and the number of its line, which is put behind those of the lines above; `None` where it is not yet read.
@@ -235,42 +238,85 @@ fn end_of_refutation(
     Ok(end)
 }
 
+/// The refutation with this rest and this end; `None` where the end is not yet read.
+fn refutation_of(rest: Program, end: Option<EndProgram>) -> Option<Option<RefutationProgram>>
+    ensures { result ≡ option_map (refuted_program rest) end }
+{
+    match end {
+        None => None,
+        Some(end) => Some(Some(RefutationProgram { rest, end })),
+    }
+}
+
 /// The rest and the end of a refutation, over n monomials, with the numbers of their lines behind those of an answer so far; `None` where it is not yet read.
 fn refutation_lines(
     alloc: Global,
     lines: &mut Lines<'_>,
     n: u8,
     numbers: &mut NumberList,
-) -> Result<Option<RefutationProgram>, ReadFault>
+) -> Result<Option<Option<RefutationProgram>>, ReadFault>
     requires { InFile lines.old }
-    ensures read { (tree : AnswerTree) (partial : AnswerProgram) → partial ≡ answer_program tree → IsPartialOver (n + 1) tree → numbers.old ≡ partial.lines → IfOk result (λ found. IsSomeAnswer n (spec.refutation_end n tree lines.old) (option_map (refuted_program partial numbers.new) found) lines.new) }
+    ensures read { (tree : AnswerTree) (partial : PartialProgram) → partial ≡ partial_program tree → IsPartialOver (n + 1) tree → numbers.old ≡ partial.so_far.lines → IfOk result (λ found. IsSomeAnswer n (spec.refutation_end n tree lines.old) (option_map (ended_program partial numbers.new) found) lines.new) }
     ensures fault { (tree : AnswerTree) → IfErr result (λ fault. IsFaultOf fault (spec.refutation_end n tree lines.old)) }
     ensures in_file { OnOk result (InFile lines.new) }
 {
     let rest = lines.numbered_line(alloc, b"rest", monomials(n), numbers)?;
-    let Some(end) = end_of_refutation(alloc, lines, n, numbers)? else {
-        return Ok(None);
-    };
-    Ok(Some(RefutationProgram { rest, end }))
+    let end = end_of_refutation(alloc, lines, n, numbers)?;
+    Ok(refutation_of(rest, end))
 }
 
-/// An answer so far, and the rest and the end of a refutation, over n monomials; `None` where it is not yet read.
-fn refutation_end(
+/// The end of an answer, over n monomials, with the numbers of its lines behind those of an answer so far: no refutation where it is an integral; `None` where it is not yet read.
+fn end_lines(
     alloc: Global,
     lines: &mut Lines<'_>,
     n: u8,
-    mut partial: AnswerProgram,
-) -> Result<Option<AnswerProgram>, ReadFault>
+    refuted: bool,
+    numbers: &mut NumberList,
+) -> Result<Option<Option<RefutationProgram>>, ReadFault>
     requires { InFile lines.old }
-    ensures read { (tree : AnswerTree) → partial ≡ answer_program tree → IsPartialOver (n + 1) tree → IfOk result (λ program. IsSomeAnswer n (spec.refutation_end n tree lines.old) program lines.new) }
-    ensures fault { (tree : AnswerTree) → IfErr result (λ fault. IsFaultOf fault (spec.refutation_end n tree lines.old)) }
+    ensures read { (tree : AnswerTree) (partial : PartialProgram) → partial ≡ partial_program tree → IsPartialOver (n + 1) tree → numbers.old ≡ partial.so_far.lines → IfOk result (λ found. IsSomeAnswer n (spec.answer_end n refuted tree lines.old) (option_map (ended_program partial numbers.new) found) lines.new) }
+    ensures fault { (tree : AnswerTree) → IfErr result (λ fault. IsFaultOf fault (spec.answer_end n refuted tree lines.old)) }
     ensures in_file { OnOk result (InFile lines.new) }
 {
-    let Some(refutation) = refutation_lines(alloc, lines, n, &mut partial.lines)? else {
-        return Ok(None);
-    };
-    partial.refutation = Some(refutation);
-    Ok(Some(partial))
+    if refuted {
+        refutation_lines(alloc, lines, n, numbers)
+    } else {
+        integral_end(lines, numbers)
+    }
+}
+
+impl PartialProgram {
+    /// The answer with this end; `None` where it is not yet read.
+    fn ended(self, end: Option<Option<RefutationProgram>>) -> Option<AnswerProgram>
+        ensures { result ≡ option_map (ended_program self self.so_far.lines) end }
+    {
+        match end {
+            None => None,
+            Some(refutation) => Some(AnswerProgram {
+                part: self.part,
+                logs: self.so_far.logs,
+                refutation,
+                lines: self.so_far.lines,
+            }),
+        }
+    }
+}
+
+/// An answer so far, and its end, over n monomials; `None` where it is not yet read.
+fn answer_end(
+    alloc: Global,
+    lines: &mut Lines<'_>,
+    n: u8,
+    refuted: bool,
+    mut partial: PartialProgram,
+) -> Result<Option<AnswerProgram>, ReadFault>
+    requires { InFile lines.old }
+    ensures read { (tree : AnswerTree) → partial ≡ partial_program tree → IsPartialOver (n + 1) tree → IfOk result (λ program. IsSomeAnswer n (spec.answer_end n refuted tree lines.old) program lines.new) }
+    ensures fault { (tree : AnswerTree) → IfErr result (λ fault. IsFaultOf fault (spec.answer_end n refuted tree lines.old)) }
+    ensures in_file { OnOk result (InFile lines.new) }
+{
+    let end = end_lines(alloc, lines, n, refuted, &mut partial.so_far.lines)?;
+    Ok(partial.ended(end))
 }
 
 /// The lines of a printed answer, over n monomials; `None` where it is not yet read.
@@ -287,11 +333,7 @@ fn answer_lines(
     let first = lines.line();
     let refuted = is_refuted(lines)?;
     let partial = partial_lines(alloc, lines, n, first as u32)?;
-    if refuted {
-        return refutation_end(alloc, lines, n, partial);
-    }
-    let answer = integral_end(lines, n, partial)?;
-    Ok(Some(answer))
+    answer_end(alloc, lines, n, refuted, partial)
 }
 
 /// A file that holds a problem, its printed answer, and nothing more; `None` where the answer is not yet read.

@@ -49,6 +49,13 @@ pub(crate) struct LogPrograms {
     pub lines: NumberList,
 }
 
+/// The steps of a part, and the logarithms behind it, with the numbers of the lines of an answer so far.
+#[derive(Drop)]
+pub(crate) struct PartialProgram {
+    pub part: Program,
+    pub so_far: LogPrograms,
+}
+
 /// An end of a refutation in residues: the number of a variable, a power, and the steps of a trace.
 #[derive(Drop)]
 pub(crate) struct EndProgram {

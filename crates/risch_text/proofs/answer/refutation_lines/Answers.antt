@@ -1,6 +1,6 @@
 use Rattle.std.proofs.Common.{ℕ, List, ◌∷◌, [], ◌++◌, ◌∙◌, ap}
 use Rattle.std.proofs.lemmas.Result.{err_from_is_err_and}
-use Rattle.risch_text.proofs.AnswerLines.{refutation_read, refutation_unread, rest_fault, end_line_fault}
+use Rattle.risch_text.proofs.AnswerLines.{refutation_ended, rest_fault, end_line_fault}
 use Rattle.risch_text.proofs.answer.refutation_lines.Goals as goal
 
 pub returns-in_err-rest-clause-fault : goal.returns-in_err-rest-clause-fault
@@ -13,13 +13,7 @@ returns-in_err-end-clause-fault c =
     let p = err_from_is_err_and c.from_residual-in_err-end.result c.from_residual-in_err-end.ensures.1 in
     rw (p.1, p.2) (λ tree. end_line_fault c.args.n tree c.args.lines.now c.numbered_line.new.self c.in_ok-rest.rest c.in_err-end.field-0.0 (rw c.monomials.ensures at c.in_ok-rest.ensures.read) c.in_err-end.ensures.fault)
 
--- The end is not yet read.
-pub returns-in_default-clause-read : goal.returns-in_default-clause-read
-returns-in_default-clause-read c = λ tree partial written over same. refutation_unread c.args.n tree partial written over c.args.lines.now c.numbered_line.new.self c.in_ok-rest.rest
-    (rw c.monomials.ensures at c.in_ok-rest.ensures.read) c.end_of_refutation.new.lines (rw c.in_default.is at c.in_ok-end.ensures.read)
-
 pub returns-clause-read : goal.returns-clause-read
-returns-clause-read c = λ tree partial written over same. refutation_read c.args.n tree partial written over c.args.lines.now c.numbered_line.new.self c.in_ok-rest.rest
-    (rw c.monomials.ensures at c.in_ok-rest.ensures.read) c.in-Some.end c.end_of_refutation.new.lines c.numbered_line.new.numbers c.end_of_refutation.new.numbers (rw c.in-Some.is at c.in_ok-end.ensures.read)
-    (c.in_ok-rest.ensures.numbered ∙ ap (λ (ls : List ℕ). ls ++ c.args.lines.now.line ∷ []) same)
-    c.in_ok-end.ensures.numbered
+returns-clause-read c = λ tree partial written over same. rw c.refutation_of.ensures (refutation_ended c.args.n tree partial written over c.args.lines.now c.numbered_line.new.self c.in_ok-rest.rest
+    (rw c.monomials.ensures at c.in_ok-rest.ensures.read) c.in_ok-end.end c.end_of_refutation.new.lines c.numbered_line.new.numbers c.end_of_refutation.new.numbers c.in_ok-end.ensures.read
+    (c.in_ok-rest.ensures.numbered ∙ ap (λ (ls : List ℕ). ls ++ c.args.lines.now.line ∷ []) same) c.in_ok-end.ensures.numbered)
