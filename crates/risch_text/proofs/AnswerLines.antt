@@ -1,6 +1,6 @@
 -- The lines of an answer, one after the other.
-use Rattle.std.proofs.Common.{◌≡◌, ℕ, suc, ◌+◌, ◌<◌, ◌^◌, List, [], ◌∷◌, ◌++◌, length, map, Bool, Option, Some, None, Result, Ok, Err, refl, sym, ap, ◌∙◌, arith, length-append, append_assoc}
-use Rattle.std.specs.Prelude.{option_map, All, codes, OnOk, IfOk, IfErr}
+use Rattle.std.proofs.Common.{◌≡◌, ℕ, suc, ◌+◌, ◌<◌, ◌^◌, List, [], ◌∷◌, ◌++◌, length, map, Bool, true, false, Option, Some, None, Result, Ok, Err, refl, sym, ap, ◌∙◌, arith, length-append, append_assoc}
+use Rattle.std.specs.Prelude.{⊤, option_map, All, codes, OnOk, IfOk, IfErr}
 use Rattle.std.proofs.lemmas.List.{map-append}
 use Rattle.std.proofs.lemmas.List.Elements.{All-nil, All-push}
 use Rattle.risch_expression.specs.Words.{after_word}
@@ -16,7 +16,7 @@ use Rattle.risch_text.specs.Lines.{Front, moved, Reached, reached, behind_word, 
 use Rattle.risch_text.specs.File.{monomials}
 use Rattle.risch_text.specs.Certified.{LogLine, log_line, sum_line, with_z, factor, after_log, after_sum, LogLines, next_log, log_lines, log_lines_from, with_log, AnswerTree, end_line, is_refuted, partial_lines, integral_end, refutation_end, answer_end, answer_lines}
 use Rattle.risch_text.specs.Programs.{log_program, partial_program, ended_program, refuted_program, IsLogOver, IsPartialOver}
-use Rattle.risch_text.specs.Reading.{IsSum, IsLogLine, IsSomeLog, IsNextFault, AreLogLines, IsSomeEnd, IsNextEnd, IsPartialRead, IsAnswerRead, IsSomeAnswer}
+use Rattle.risch_text.specs.Reading.{Moves, MovesTo, IsSum, IsLogLine, IsSomeLog, IsNextLog, IsNextFault, AreLogLines, IsSomeEnd, IsNextEnd, IsPartialRead, IsAnswerRead, IsSomeAnswer}
 use Rattle.risch_text.specs.declared.programs.Factor.{Factor}
 use Rattle.risch_text.specs.declared.programs.LogProgram.{LogProgram}
 use Rattle.risch_text.specs.declared.programs.LogProgram.TheVariants.{Log, Sum}
@@ -54,6 +54,10 @@ fixed_word_low w ws front behind h f = by_found (behind_word (w ∷ ws) front) r
 pub on_ok : {A E : Type 0} (result : Result A E) (P : Type 0) → P → OnOk result P
 on_ok (Ok a) P h = h
 on_ok (Err e) P h = tt
+
+pub on_mapped : {A B E : Type 0} (f : A → B) (result : Result A E) (P : Type 0) → OnOk result P → OnOk (map_value f result) P
+on_mapped f (Ok a) P h = h
+on_mapped f (Err e) P h = tt
 
 pub bare_line_low : (w : ℕ) (ws : List ℕ) (front next : Front) → bare_line (w ∷ ws) front ≡ Ok next → InFile front → front.line < 2 ^ 32
 unfolding bare_line
@@ -153,12 +157,21 @@ module _ (n : ℕ) (front : Front) where
   none_stands none e = rw (none, e) refl
 
   module _ (rule : Read (Reached LogLine)) (e : next_log n front ≡ Some rule) where
-    pub next_is : (program : LogProgram) (next : Front) → front.line < 2 ^ 32 → IsLogLine n rule program next → IsSomeLog n (next_log n front) program front next
+    next_is : (program : LogProgram) (next : Front) → front.line < 2 ^ 32 → IsLogLine n rule program next → IsSomeLog n (next_log n front) program front next
     next_is program next low p = record { line = p.line; is = e ∙ ap Some p.is; written = p.written; over = p.over; low = low }
 
-    pub next_fault : (fault : ReadFault) → IsFaultOf fault rule → IsNextFault fault (next_log n front)
+    next_fault : (fault : ReadFault) → IsFaultOf fault rule → IsNextFault fault (next_log n front)
     next_fault (Syntax f) h = e ∙ ap Some h
     next_fault Memory h = tt
+
+    pub next_read : (log : Result LogProgram ReadFault) (next : Front) → front.line < 2 ^ 32 → IfOk log (λ program. IsLogLine n rule program next) →
+        IfOk (map_value Some log) (λ log. IsNextLog n (next_log n front) log front next)
+    next_read (Ok program) next low p = next_is program next low p
+    next_read (Err fault) next low p = tt
+
+    pub next_faults : (log : Result LogProgram ReadFault) → IfErr log (λ fault. IsFaultOf fault rule) → IfErr (map_value Some log) (λ fault. IsNextFault fault (next_log n front))
+    next_faults (Ok program) h = tt
+    next_faults (Err fault) h = next_fault fault h
 
 -- ---- logarithms, over n monomials, behind so many lines
 -- What is read so far: the rule is the same from here on.
@@ -299,7 +312,24 @@ unfolding refutation_end
 end_line_fault n tree front after rest (Syntax f) r h = let is = r.is in rw (is, h) refl
 end_line_fault n tree front after rest Memory r h = tt
 
--- the first line, the part and the logarithms, and the end
+-- the first line
+pub first_integral : (front behind next : Front) (end : Result ⊤ SyntaxFault) → behind_word (codes "integral") front ≡ Some behind → Moves end (line_end behind) next →
+    MovesTo (map_value (λ u. false) end) (is_refuted front) next
+unfolding is_refuted
+first_integral front behind next (Ok u) e h = rw (e, h) refl
+first_integral front behind next (Err fault) e h = rw (e, h) refl
+
+pub first_refuted : (front next : Front) (end : Result ⊤ SyntaxFault) → behind_word (codes "integral") front ≡ None → Moves end (bare_line (codes "refuted") front) next →
+    MovesTo (map_value (λ u. true) end) (is_refuted front) next
+unfolding is_refuted
+first_refuted front next (Ok u) e h = rw (e, h) refl
+first_refuted front next (Err fault) e h = rw (e, h) refl
+
+pub refuted_low : (front next : Front) (end : Result ⊤ SyntaxFault) → Moves end (bare_line (codes "refuted") front) next → InFile front → OnOk (map_value (λ u. true) end) (front.line < 2 ^ 32)
+refuted_low front next (Ok u) h f = bare_line_low 114 (codes "efuted") front next h f
+refuted_low front next (Err fault) h f = tt
+
+-- the part and the logarithms, and the end
 pub first_line_fault : (n : ℕ) (front : Front) (fault : SyntaxFault) → is_refuted front ≡ Err fault → answer_lines n front ≡ Err fault
 unfolding answer_lines
 first_line_fault n front fault e = rw e refl

@@ -1,6 +1,6 @@
 -- What is answered for a file.
-use Rattle.std.proofs.Common.{◌≡◌, ℕ, List, length, Option, Some, None, Result, Ok, Err, refl}
-use Rattle.std.specs.Prelude.{IfOk, IfSome}
+use Rattle.std.proofs.Common.{◌≡◌, ℕ, List, length, Option, Some, None, Result, Ok, Err, refl, ap}
+use Rattle.std.specs.Prelude.{option_map, IfOk, IfSome}
 use Rattle.risch_expression.specs.Reading.{IsFaultOf}
 use Rattle.risch_expression.specs.declared.fault.ReadFault.{ReadFault}
 use Rattle.risch_expression.specs.declared.fault.ReadFault.TheVariants as reading
@@ -8,10 +8,10 @@ use Rattle.risch_text.specs.File.{whole_problem}
 use Rattle.risch_text.specs.Certified.{CertifiedTree, whole_certified}
 use Rattle.risch_text.specs.Problem.{ProblemValue, CertifiedValue}
 use Rattle.risch_text.specs.Programs.{certified_program}
-use Rattle.risch_text.specs.Values.{Reading, fault_of_reading, valued_by, problem_value, certified_value, certified_if_read}
+use Rattle.risch_text.specs.Values.{Reading, fault_of_reading, valued_by, problem_value, certified_if_read}
 use Rattle.risch_text.specs.Read.{problem_answer, read_problem, IsReadAs}
 use Rattle.risch_text.specs.ReadCertified.{certified_answer, read_certified, IsCertifiedAs}
-use Rattle.risch_text.specs.Reading.{Reads, IsEndOf, IsCertifiedRead}
+use Rattle.risch_text.specs.Reading.{Reads, IsEndOf, IsWholeCertified}
 use Rattle.risch_text.specs.Meaning.{IfProblem, IfCertified}
 use Rattle.risch_text.specs.declared.programs.CertifiedProgram.{CertifiedProgram}
 use Rattle.risch_text.specs.declared.fault.Fault.{Fault}
@@ -36,20 +36,10 @@ problem_told size (Err (Stopped stop)) Fact h = tt
 problem_told size (Err Memory) Fact h = tt
 
 -- ---- with a certificate
-pub certified_none : (bytes : List ℕ) → whole_certified bytes ≡ Ok None → valued_by certified_if_read (whole_certified bytes) ≡ Ok None
-certified_none bytes e = rw e refl
-
-module _ (bytes : List ℕ) (program : CertifiedProgram) (p : IsCertifiedRead (whole_certified bytes) program) where
-  pub certified_some : (certified : CertifiedValue) → ((tree : CertifiedTree) → program ≡ certified_program tree → certified_value tree ≡ Ok certified) →
-      valued_by certified_if_read (whole_certified bytes) ≡ Ok (Some certified)
-  certified_some certified value = rw (p.is, value p.tree p.written) refl
-
-  pub certified_end : (fault : Fault) → ((tree : CertifiedTree) → program ≡ certified_program tree → IsEndOf fault (certified_value tree)) →
-      IsEndOf fault (valued_by certified_if_read (whole_certified bytes))
-  certified_end (Syntax f) value = rw (p.is, value p.tree p.written) refl
-  certified_end (Refused left cause) value = rw (p.is, value p.tree p.written) refl
-  certified_end (Stopped stop) value = rw (p.is, value p.tree p.written) refl
-  certified_end Memory value = tt
+pub certified_valued : (bytes : List ℕ) (program : Option CertifiedProgram) (result : Result (Option CertifiedValue) Fault) → IsWholeCertified (whole_certified bytes) program →
+    ((tree : Option CertifiedTree) → program ≡ option_map certified_program tree → Reads result (certified_if_read tree)) → Reads result (valued_by certified_if_read (whole_certified bytes))
+certified_valued bytes None result p value = rw p (value None refl)
+certified_valued bytes (Some program) result p value = let is = p.is in rw is (value (Some p.tree) (ap Some p.written))
 
 pub certified_fault : (bytes : List ℕ) (fault : ReadFault) → IsFaultOf fault (whole_certified bytes) → IsEndOf (fault_of_reading fault) (valued_by certified_if_read (whole_certified bytes))
 certified_fault bytes (reading.Syntax f) h = rw h refl

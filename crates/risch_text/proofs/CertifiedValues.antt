@@ -1,6 +1,6 @@
 -- The values of a problem and its printed answer.
-use Rattle.std.proofs.Common.{◌≡◌, ℕ, ◌+◌, List, length, [], Option, None, Some, Ok, refl, ap}
-use Rattle.std.specs.Prelude.{option_map}
+use Rattle.std.proofs.Common.{◌≡◌, ℕ, ◌+◌, List, length, [], Option, None, Some, Result, Ok, refl, ap}
+use Rattle.std.specs.Prelude.{option_map, IfSome}
 use Rattle.std.proofs.lemmas.List.{length-map}
 use Rattle.std.proofs.lemmas.List.Elements.{All-map, All-weaker}
 use Rattle.risch_level.specs.Levels.{Element}
@@ -13,10 +13,10 @@ use Rattle.risch_cert.specs.declared.chain.End.TheVariants.{Residue}
 use Rattle.risch_expression.specs.Results.{map_value}
 use Rattle.risch_expression.specs.Grammar.{Read}
 use Rattle.risch_text.specs.Certified.{LogLine, log_line, sum_line, RefutationTree, AnswerTree, CertifiedTree}
-use Rattle.risch_text.specs.Problem.{ProblemValue, IsForm, line_count, IsCertified}
-use Rattle.risch_text.specs.Values.{element_at, with_logs, problem_value, integral_value, chain_value, certificate_value, answer_value, certified_value}
+use Rattle.risch_text.specs.Problem.{ProblemValue, CertifiedValue, IsForm, line_count, IsCertified}
+use Rattle.risch_text.specs.Values.{Reading, element_at, with_logs, problem_value, integral_value, chain_value, certificate_value, answer_value, certified_value, certified_if_read}
 use Rattle.risch_text.specs.Programs.{tower_program, log_program, problem_program, refutation_program, certified_program, IsLogOver, IsLogProgramOver, IsSomeRefutationOver, IsSomeRefutationProgramOver, other_lines, IsAnswerProgramOver, IsCertifiedOver, IsCertifiedProgramOver}
-use Rattle.risch_text.specs.Reading.{IsEndOf, IsCertifiedRead}
+use Rattle.risch_text.specs.Reading.{IsEndOf, Reads, IsCertifiedRead, IsWholeCertified}
 use Rattle.risch_text.specs.declared.fault.Fault.{Fault}
 use Rattle.risch_text.specs.declared.fault.Fault.TheVariants.{Syntax, Refused, Stopped, Memory}
 use Rattle.risch_text.specs.declared.programs.RefutationProgram.{RefutationProgram}
@@ -39,7 +39,7 @@ same_others : (r : Option RefutationTree) → other_lines (option_map refutation
 same_others None = refl
 same_others (Some r) = refl
 
-pub certified_over : (rule : Read (Option CertifiedTree)) (program : CertifiedProgram) → IsCertifiedRead rule program → IsCertifiedProgramOver program
+certified_over : (rule : Read (Option CertifiedTree)) (program : CertifiedProgram) → IsCertifiedRead rule program → IsCertifiedProgramOver program
 certified_over rule program p = rw p.written (of p.tree p.over)
   where
     of : (t : CertifiedTree) → IsCertifiedOver t → IsCertifiedProgramOver (certified_program t)
@@ -52,6 +52,10 @@ certified_over rule program p = rw p.written (of p.tree p.over)
         numbered = rw (length-map t.answer.logs log_program, same_others t.answer.refutation) o.answer.numbered;
       });
     }
+
+pub over_if_read : (rule : Read (Option CertifiedTree)) (program : Option CertifiedProgram) → IsWholeCertified rule program → IfSome program IsCertifiedProgramOver
+over_if_read rule None p = tt
+over_if_read rule (Some program) p = certified_over rule program p
 
 -- ---- the values of an answer
 pub part_ends : (tree : AnswerTree) (fault : Fault) → IsEndOf fault (element_at 0 tree.part) → IsEndOf fault (integral_value tree)
@@ -155,6 +159,22 @@ pub certified_is : (tree : CertifiedTree) (problem : ProblemValue) (it : Certifi
     lines ≡ tree.answer.lines → certified_value tree ≡ Ok (record { problem = problem; certificate = it; lines = lines })
 unfolding certified_value
 certified_is tree problem it lines e h is = rw (e, h, is) refl
+
+-- as it is answered for what is read with its answer
+pub ends_some : {A : Type 0} (fault : Fault) (value : Reading A) → IsEndOf fault value → IsEndOf fault (map_value Some value)
+ends_some (Syntax f) value h = rw h refl
+ends_some (Refused left cause) value h = rw h refl
+ends_some (Stopped stop) value h = rw h refl
+ends_some Memory value h = tt
+
+pub none_if_read : (tree : Option CertifiedTree) → None ≡ option_map certified_program tree → certified_if_read tree ≡ Ok None
+none_if_read None e = refl
+none_if_read (Some tree) e = absurd (cc)
+
+pub some_if_read : (program : CertifiedProgram) (result : Result (Option CertifiedValue) Fault) → ((tree : CertifiedTree) → program ≡ certified_program tree → Reads result (map_value Some (certified_value tree))) →
+    (tree : Option CertifiedTree) → Some program ≡ option_map certified_program tree → Reads result (certified_if_read tree)
+some_if_read program result value None e = absurd (cc)
+some_if_read program result value (Some tree) e = let same : program ≡ certified_program tree = cc in value tree same
 
 -- ---- the certificate has its form over the tower, and there is one number for each of its lines
 pub certificate_formed : (program : CertifiedProgram) (problem : ProblemValue) (it : Certificate) → IsCertifiedProgramOver program → length problem.tower ≡ length program.problem.tower →

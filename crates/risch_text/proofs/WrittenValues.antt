@@ -1,5 +1,5 @@
 -- The values of a problem are the written values of its lines.
-use Rattle.std.specs.Prelude.{if◌then◌else◌, nat_lt, option_map, All, IfOk}
+use Rattle.std.specs.Prelude.{if◌then◌else◌, nat_lt, option_map, All, IfOk, IfSome}
 use Rattle.std.specs.List.{AllZip}
 use Rattle.std.proofs.Common.{◌≡◌, ℕ, ◌+◌, ◌≤◌, ◌<◌, Bool, true, false, List, [], ◌∷◌, ◌++◌, length, map, Option, None, Some, Result, Ok, Err, refl, sym, ap, subst, ◌∙◌, arith, length-append, append_assoc}
 use Rattle.std.proofs.lemmas.Bool.{ltb-true}
@@ -35,9 +35,9 @@ use Rattle.risch_expression.proofs.EvaluationMeaning.{evaluate-means, element_an
 use Rattle.risch_text.specs.File.{TowerLine, ProblemTree, whole_problem}
 use Rattle.risch_text.specs.Certified.{LogLine, log_line, sum_line, RefutationTree, AnswerTree, CertifiedTree, whole_certified}
 use Rattle.risch_text.specs.Problem.{ProblemValue, CertifiedValue}
-use Rattle.risch_text.specs.Values.{Reading, map_fault, fault_of_value, fault_of_push, monomial_with, element_at, with_line, with_lines, factor_value, logarithm, log_value, with_logs, problem_value, integral_value, chain_value, certificate_value, answer_value, certified_value}
+use Rattle.risch_text.specs.Values.{Reading, map_fault, fault_of_value, fault_of_push, monomial_with, element_at, with_line, with_lines, factor_value, logarithm, log_value, with_logs, problem_value, integral_value, chain_value, certificate_value, answer_value, certified_value, certified_if_read}
 use Rattle.risch_text.specs.Programs.{problem_program, certified_program, AreOver, IsProblemOver, IsLogOver, IsRefutationOver, IsSomeRefutationOver, IsAnswerOver}
-use Rattle.risch_text.specs.Reading.{Reads, IsWholeProblem, IsCertifiedRead}
+use Rattle.risch_text.specs.Reading.{Reads, IsWholeProblem, IsCertifiedRead, IsWholeCertified}
 use Rattle.risch_text.specs.Meaning.{monomial_of, written_monomial, IsWritten, IsLogWritten, IsIntegralWritten, IsChainWritten, IsCertificateWritten, IsCertifiedWritten}
 use Rattle.risch_text.specs.declared.fault.Fault.{Fault}
 use Rattle.risch_text.specs.declared.programs.ProblemProgram.{ProblemProgram}
@@ -251,7 +251,7 @@ certificate_written tree it n small over e =
         of (Ok chain) e k = let is : Refuted chain ≡ it = cc in rw (← is) (chain_written tree r partial chain n small some o w e)
         of (Err fault) e k = absurd (cc)
 
-pub certified_is_written : (bytes : List ℕ) (program : CertifiedProgram) (certified : CertifiedValue) → IsCertifiedRead (whole_certified bytes) program →
+certified_is_written : (bytes : List ℕ) (program : CertifiedProgram) (certified : CertifiedValue) → IsCertifiedRead (whole_certified bytes) program →
     ((tree : CertifiedTree) → program ≡ certified_program tree → certified_value tree ≡ Ok certified) → IsCertifiedWritten bytes certified
 unfolding certified_value
 certified_is_written bytes program certified p value =
@@ -267,3 +267,16 @@ certified_is_written bytes program certified p value =
       integrand = w.integrand_is;
       certificate = certificate_written p.tree.answer it.value (length p.tree.problem.tower + 1) w.small p.over.answer it.is;
     })
+
+-- what is answered where the answer is not yet read, too
+unsome : (value : Reading CertifiedValue) (certified : CertifiedValue) → map_value Some value ≡ Ok (Some certified) → value ≡ Ok certified
+unsome (Ok it) certified e = cc
+unsome (Err fault) certified e = absurd (cc)
+
+pub certified_if_written : (bytes : List ℕ) (program : Option CertifiedProgram) (result : Result (Option CertifiedValue) Fault) → IsWholeCertified (whole_certified bytes) program →
+    ((tree : Option CertifiedTree) → program ≡ option_map certified_program tree → Reads result (certified_if_read tree)) → IfOk result (λ certified. IfSome certified (IsCertifiedWritten bytes))
+certified_if_written bytes program (Err fault) p value = tt
+certified_if_written bytes program (Ok None) p value = tt
+certified_if_written bytes None (Ok (Some certified)) p value = let none = value None refl in absurd (cc)
+certified_if_written bytes (Some program) (Ok (Some certified)) p value =
+    certified_is_written bytes program certified p (λ tree e. unsome (certified_value tree) certified (value (Some tree) (ap Some e)))

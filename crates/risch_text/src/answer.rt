@@ -1,6 +1,7 @@
 //! The lines of a printed answer.
 
-ghost use Rattle.std.specs.Prelude.{◌≡◌, ℕ, ◌+◌, ◌<◌, ◌≤◌, ◌^◌, [], ◌∷◌, ◌++◌, length, codes, option_map, Ok, IfOk, IfErr, OnOk, OnErr};
+ghost use Rattle.std.specs.Prelude.{◌≡◌, ℕ, ◌+◌, ◌<◌, ◌≤◌, ◌^◌, [], ◌∷◌, ◌++◌, length, codes, option_map, Some, IfOk, IfErr, OnOk};
+ghost use Rattle.risch_expression.specs.Results.{map_value};
 ghost use Rattle.risch_frac.specs.Fraction as fraction;
 ghost use Rattle.risch_expression.specs.Reading.{IsFaultOf};
 ghost use Rattle.risch_text.specs.Lines.{expression_line, InFile};
@@ -92,6 +93,16 @@ fn after_sum(alloc: Global, lines: &mut Lines<'_>, n: u8) -> Result<LogProgram, 
     Ok(LogProgram::Sum(modulus, argument, start))
 }
 
+/// The logarithm that is read, as one that stands next.
+fn some_log(log: Result<LogProgram, ReadFault>) -> Result<Option<LogProgram>, ReadFault>
+    ensures { result ≡ map_value Some log }
+{
+    match log {
+        Ok(log) => Ok(Some(log)),
+        Err(fault) => Err(fault),
+    }
+}
+
 /// The logarithm that stands next, over n monomials.
 fn next_log(alloc: Global, lines: &mut Lines<'_>, n: u8) -> Result<Option<LogProgram>, ReadFault>
     requires { InFile lines.old }
@@ -100,12 +111,10 @@ fn next_log(alloc: Global, lines: &mut Lines<'_>, n: u8) -> Result<Option<LogPro
     ensures in_file { OnOk result (InFile lines.new) }
 {
     if lines.take_word(b"log") {
-        let log = after_log(alloc, lines, n)?;
-        return Ok(Some(log));
+        return some_log(after_log(alloc, lines, n));
     }
     if lines.take_word(b"sum") {
-        let log = after_sum(alloc, lines, n)?;
-        return Ok(Some(log));
+        return some_log(after_sum(alloc, lines, n));
     }
     Ok(None)
 }
@@ -145,8 +154,17 @@ fn log_lines(
     Ok(())
 }
 
+/// What a line says, if it has ended.
+fn if_ended(end: Result<(), SyntaxFault>, refuted: bool) -> Result<bool, SyntaxFault>
+    ensures { result ≡ map_value (λ _. refuted) end }
+{
+    match end {
+        Ok(()) => Ok(refuted),
+        Err(fault) => Err(fault),
+    }
+}
+
 /// Whether the first line of an answer is `refuted`, and not `integral`.
-#[tactic(auto, using(crate::proofs::AnswerLines::word_low, crate::proofs::AnswerLines::bare_line_low), unfolding(crate::specs::Certified::is_refuted))]
 fn is_refuted(lines: &mut Lines<'_>) -> Result<bool, SyntaxFault>
     requires { InFile lines.old }
     ensures moves { MovesTo result (spec.is_refuted lines.old) lines.new }
@@ -154,11 +172,9 @@ fn is_refuted(lines: &mut Lines<'_>) -> Result<bool, SyntaxFault>
     ensures in_file { OnOk result (InFile lines.new) }
 {
     if lines.take_word(b"integral") {
-        lines.line_end()?;
-        return Ok(false);
+        return if_ended(lines.line_end(), false);
     }
-    lines.bare_line(b"refuted")?;
-    Ok(true)
+    if_ended(lines.bare_line(b"refuted"), true)
 }
 
 /// The part of an answer, over n monomials, behind its first line, which has this number.

@@ -1,6 +1,7 @@
 //! The values of a problem and its printed answer.
 
-ghost use Rattle.std.specs.Prelude.{◌≡◌, ◌+◌, ℕ, false, All, length, IfOk};
+ghost use Rattle.std.specs.Prelude.{◌≡◌, ◌+◌, ℕ, false, All, length, Option, Some, option_map, IfOk, IfSome};
+ghost use Rattle.risch_expression.specs.Results.{map_value};
 ghost use Rattle.risch_text.specs.Certified.{RefutationTree, AnswerTree, CertifiedTree};
 ghost use Rattle.risch_text.specs.Problem.{IsIntegralForm, IsChainForm, IsForm, line_count};
 ghost use Rattle.risch_text.specs.Values as spec;
@@ -68,16 +69,30 @@ fn certificate_of(alloc: Global, program: &AnswerProgram) -> Result<Certificate,
 }
 
 /// The problem, and then its certificate.
-pub(crate) fn certified_of(alloc: Global, program: &CertifiedProgram) -> Result<Certified, Fault>
+fn certified_of(alloc: Global, program: &CertifiedProgram) -> Result<Option<Certified>, Fault>
     requires { IsCertifiedProgramOver program.now }
-    ensures { (tree : CertifiedTree) → program.now ≡ certified_program tree → Reads result (spec.certified_value tree) }
+    ensures { (tree : CertifiedTree) → program.now ≡ certified_program tree → Reads result (map_value Some (spec.certified_value tree)) }
 {
     let lines = program.answer.lines.copy(alloc)?;
     let problem = problem_of(alloc, &program.problem)?;
     let certificate = certificate_of(alloc, &program.answer)?;
-    Ok(Certified {
+    Ok(Some(Certified {
         problem,
         certificate,
         lines,
-    })
+    }))
+}
+
+/// The same, or `None` where the answer is not yet read.
+pub(crate) fn certified_if_read(
+    alloc: Global,
+    program: &Option<CertifiedProgram>,
+) -> Result<Option<Certified>, Fault>
+    requires { IfSome program.now IsCertifiedProgramOver }
+    ensures { (tree : Option CertifiedTree) → program.now ≡ option_map certified_program tree → Reads result (spec.certified_if_read tree) }
+{
+    match program {
+        None => Ok(None),
+        Some(program) => certified_of(alloc, program),
+    }
 }
