@@ -14,9 +14,9 @@ use Rattle.risch_expression.specs.declared.fault.SyntaxFault.{SyntaxFault}
 use Rattle.risch_expression.specs.declared.names.Names.{Names}
 use Rattle.risch_text.specs.Lines.{Front, moved, Reached, reached, behind_word, wanted, fixed, line_end, to_line_end, sum_of, bare_line, expression_line, InFile}
 use Rattle.risch_text.specs.File.{monomials}
-use Rattle.risch_text.specs.Certified.{LogLine, log_line, sum_line, with_z, factor, after_log, after_sum, LogLines, next_log, log_lines, log_lines_from, with_log, AnswerTree, end_line, is_refuted, partial_lines, integral_end, refutation_end, answer_end, answer_lines}
+use Rattle.risch_text.specs.Certified.{LogLine, log_line, sum_line, with_z, factor, after_log, after_sum, LogLines, next_log, log_lines, log_lines_from, with_log, AnswerTree, residue_end, some_end, end_kind, end_line, is_refuted, partial_lines, integral_end, refutation_end, answer_end, answer_lines}
 use Rattle.risch_text.specs.Programs.{log_program, partial_program, ended_program, refuted_program, IsLogOver, IsPartialOver}
-use Rattle.risch_text.specs.Reading.{Moves, MovesTo, IsSum, IsLogLine, IsSomeLog, IsNextLog, IsNextFault, AreLogLines, IsSomeEnd, IsNextEnd, IsPartialRead, IsAnswerRead, IsSomeAnswer}
+use Rattle.risch_text.specs.Reading.{Moves, MovesTo, IsSum, IsLogLine, IsSomeLog, IsNextLog, IsNextFault, AreLogLines, IsEndRead, IsSomeEnd, IsNextEnd, IsPartialRead, IsAnswerRead, IsSomeAnswer}
 use Rattle.risch_text.specs.declared.programs.Factor.{Factor}
 use Rattle.risch_text.specs.declared.programs.LogProgram.{LogProgram}
 use Rattle.risch_text.specs.declared.programs.LogProgram.TheVariants.{Log, Sum}
@@ -311,6 +311,25 @@ pub end_line_fault : (n : ℕ) (tree : AnswerTree) (front after : Front) (rest :
 unfolding refutation_end
 end_line_fault n tree front after rest (Syntax f) r h = let is = r.is in rw (is, h) refl
 end_line_fault n tree front after rest Memory r h = tt
+
+-- the end of a refutation in residues
+module _ (n : ℕ) (front behind : Front) (e : behind_word (codes "residue") front ≡ Some behind) where
+  residue_stands : end_kind n front ≡ some_end (residue_end n behind)
+  unfolding end_kind
+  residue_stands = rw e refl
+
+  pub residue_read : (end : Result EndProgram ReadFault) (next : Front) → IfOk end (λ program. IsEndRead n (residue_end n behind) program next) →
+      IfOk (map_value Some end) (λ end. IsNextEnd n (end_kind n front) end next)
+  residue_read (Ok program) next p = record { tree = p.tree; is = residue_stands ∙ ap some_end p.is; written = p.written; over = p.over }
+  residue_read (Err fault) next p = tt
+
+  fault_stands : (fault : ReadFault) → IsFaultOf fault (residue_end n behind) → IsFaultOf fault (end_kind n front)
+  fault_stands (Syntax f) h = residue_stands ∙ ap some_end h
+  fault_stands Memory h = tt
+
+  pub residue_fault : (end : Result EndProgram ReadFault) → IfErr end (λ fault. IsFaultOf fault (residue_end n behind)) → IfErr (map_value Some end) (λ fault. IsFaultOf fault (end_kind n front))
+  residue_fault (Ok program) h = tt
+  residue_fault (Err fault) h = fault_stands fault h
 
 -- the first line
 pub first_integral : (front behind next : Front) (end : Result ⊤ SyntaxFault) → behind_word (codes "integral") front ≡ Some behind → Moves end (line_end behind) next →

@@ -41,12 +41,14 @@ fn factor_value(factor: Factor) -> Result<Frac, Fault>
 }
 
 /// The polynomial in z that an expression stands for, in a line that begins there.
-#[tactic(auto, using(crate::proofs::Endings::value_read, crate::proofs::Endings::value_fault), unfolding(crate::specs::Values::polynomial_at))]
 fn polynomial_at(alloc: Global, start: u32, program: &[Step]) -> Result<Poly, Fault>
     ensures value { (tree : Tree) → program.now ≡ steps tree → Reads result (spec.polynomial_at start tree) }
     ensures within { (n : ℕ) → IsProgramOver n true program.now → IfOk result (λ it. AllWithin n it) }
 {
-    evaluate(alloc, program).map_err(|fault| Fault::of_value(start, fault))
+    match evaluate(alloc, program) {
+        Ok(polynomial) => Ok(polynomial),
+        Err(fault) => Err(Fault::of_value(start, fault)),
+    }
 }
 
 /// The coefficients of a constant polynomial in z from exponent 0, none of 0.

@@ -1,6 +1,7 @@
 //! The end of a printed refutation.
 
-ghost use Rattle.std.specs.Prelude.{◌≡◌, ◌+◌, ◌<◌, ◌≤◌, ◌^◌, IfOk, IfErr, OnOk};
+ghost use Rattle.std.specs.Prelude.{◌≡◌, ◌+◌, ◌<◌, ◌≤◌, ◌^◌, Some, IfOk, IfErr, OnOk};
+ghost use Rattle.risch_expression.specs.Results.{map_value};
 ghost use Rattle.risch_expression.specs.Reading.{IsFaultOf};
 ghost use Rattle.risch_text.specs.Lines.{InFile};
 ghost use Rattle.risch_text.specs.Certified as spec;
@@ -49,6 +50,16 @@ fn residue_end(alloc: Global, lines: &mut Lines<'_>, n: u8) -> Result<EndProgram
     end_power(alloc, lines, n, level)
 }
 
+/// The end that is read, as one that may not yet be read.
+fn some_end(end: Result<EndProgram, ReadFault>) -> Result<Option<EndProgram>, ReadFault>
+    ensures { result ≡ map_value Some end }
+{
+    match end {
+        Ok(end) => Ok(Some(end)),
+        Err(fault) => Err(fault),
+    }
+}
+
 /// What stands behind the word `end`, over n monomials; `None` where it is not yet read.
 #[tactic(auto, unfolding(crate::specs::Certified::end_kind))]
 fn end_kind(alloc: Global, lines: &mut Lines<'_>, n: u8) -> Result<Option<EndProgram>, ReadFault>
@@ -58,8 +69,7 @@ fn end_kind(alloc: Global, lines: &mut Lines<'_>, n: u8) -> Result<Option<EndPro
     ensures in_file { OnOk result (InFile lines.new) }
 {
     if lines.take_word(b"residue") {
-        let end = residue_end(alloc, lines, n)?;
-        return Ok(Some(end));
+        return some_end(residue_end(alloc, lines, n));
     }
     if lines.take_word(b"exponent") || lines.take_word(b"degree") {
         return Ok(None);

@@ -18,12 +18,25 @@ use risch_tower::{Monomial, Tower};
 use std::alloc::Global;
 
 /// The element that an expression stands for, in a line that begins there.
-#[tactic(auto, using(crate::proofs::Endings::value_read, crate::proofs::Endings::value_fault), unfolding(crate::specs::Values::element_at))]
 pub(crate) fn element_at(alloc: Global, start: u32, program: &[Step]) -> Result<Elem, Fault>
     ensures value { (tree : Tree) → program.now ≡ steps tree → Reads result (spec.element_at start tree) }
     ensures within { (n : ℕ) → IsProgramOver n false program.now → IfOk result (λ it. Within n it) }
 {
-    evaluate_element(alloc, program).map_err(|fault| Fault::of_value(start, fault))
+    match evaluate_element(alloc, program) {
+        Ok(element) => Ok(element),
+        Err(fault) => Err(Fault::of_value(start, fault)),
+    }
+}
+
+/// The monomial with this argument.
+fn monomial_with(exponential: bool, argument: Elem) -> Monomial
+    ensures { result ≡ spec.monomial_with exponential argument }
+{
+    if exponential {
+        Monomial::Exp(argument)
+    } else {
+        Monomial::Log(argument)
+    }
 }
 
 /// Adds the monomial of a tower line.
@@ -34,14 +47,10 @@ fn push_line(alloc: Global, tower: &mut Tower, line: &TowerProgram) -> Result<()
     ensures higher { OnOk result (length tower.new ≡ length tower.old + 1) }
 {
     let argument = element_at(alloc, line.left, line.argument.as_slice())?;
-    let monomial = if line.exponential {
-        Monomial::Exp(argument)
-    } else {
-        Monomial::Log(argument)
-    };
-    tower
-        .push(alloc, monomial)
-        .map_err(|fault| Fault::of_push(line.left, fault))
+    match tower.push(alloc, monomial_with(line.exponential, argument)) {
+        Ok(()) => Ok(()),
+        Err(fault) => Err(Fault::of_push(line.left, fault)),
+    }
 }
 
 /// The tower with the monomials of the lines.

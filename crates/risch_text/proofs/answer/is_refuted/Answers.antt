@@ -1,5 +1,5 @@
 use Rattle.std.specs.Prelude.{codes}
-use Rattle.std.proofs.Common.{◌≡◌, true, false}
+use Rattle.std.proofs.Common.{true, false}
 use Rattle.risch_text.proofs.AnswerLines.{word_low, on_ok, on_mapped, first_integral, first_refuted, refuted_low}
 use Rattle.risch_text.proofs.answer.is_refuted.Goals as goal
 
