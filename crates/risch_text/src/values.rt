@@ -40,7 +40,6 @@ fn monomial_with(exponential: bool, argument: Elem) -> Monomial
 }
 
 /// Adds the monomial of a tower line.
-#[tactic(auto, using(crate::proofs::Endings::push_fault), unfolding(crate::specs::Values::with_line))]
 fn push_line(alloc: Global, tower: &mut Tower, line: &TowerProgram) -> Result<(), Fault>
     requires { IsProgramOver (length tower.old + 1) false line.now.argument }
     ensures value { (l : TowerLine) → line.now ≡ tower_program l → ReadsWith result tower.new (spec.with_line tower.old l) }
