@@ -68,7 +68,6 @@ fn tower_line(
 }
 
 /// The tower lines that stand next.
-#[tactic(auto, using(crate::proofs::TowerLines::tower_begin, crate::proofs::TowerLines::tower_stop, crate::proofs::TowerLines::tower_done, crate::proofs::TowerLines::tower_more, crate::proofs::TowerLines::tower_fault))]
 fn tower_lines(alloc: Global, lines: &mut Lines<'_>) -> Result<Items<TowerProgram>, ReadFault>
     requires { InFile lines.old }
     ensures read { IfOk result (λ programs. AreTowerLines (spec.tower_lines 9 [] lines.old) programs lines.new) }
