@@ -1,6 +1,6 @@
 //! The monic common divisor of polynomials, by Euclid's remainders.
 
-ghost use Rattle.std.specs.Prelude.{◌+◌, ◌||◌, if◌then◌else◌, ◌∷◌, [], length, Ok};
+ghost use Rattle.std.specs.Prelude.{◌+◌, length};
 ghost use Rattle.risch_field.specs.Checked.{Agrees};
 ghost use Rattle.risch_polynomial.specs.Poly as poly;
 
@@ -14,10 +14,8 @@ use std::alloc::Global;
 fn monic_remainder<E: Arith>(alloc: Global, left: &Poly<E>, by: &Poly<E>) -> Result<Poly<E>, Fail>
     ensures { Agrees result (poly.monic_remainder E.ops left.now by.now) }
 {
-    match div_rem(alloc, left, by) {
-        Ok((_, rest)) => rest.monic(alloc),
-        Err(fail) => Err(fail),
-    }
+    let (_, rest) = div_rem(alloc, left, by)?;
+    rest.monic(alloc)
 }
 
 /// The last of a, b, monic(a rem b), .. that is not 0.
@@ -38,19 +36,6 @@ fn last_remainder<E: Arith>(alloc: Global, left: Poly<E>, right: Poly<E>) -> Res
     Ok(left)
 }
 
-/// The monic common divisor of monic p and q.
-fn monic_gcd<E: Arith>(alloc: Global, left: Poly<E>, right: Poly<E>) -> Result<Poly<E>, Fail>
-    ensures { Agrees result (if poly.is_one E.ops left || poly.is_one E.ops right then Ok (E.ops.one ∷ []) else poly.remainders E.ops (length right + 1) left right) }
-{
-    if left.is_one() || right.is_one() {
-        return match Poly::one(alloc) {
-            Ok(one) => Ok(one),
-            Err(_) => Err(Fail::Memory),
-        };
-    }
-    last_remainder(alloc, left, right)
-}
-
 /// The monic common divisor of p and q, not both 0, by Euclid's remainders, each made monic.
 ///
 /// Where p or q is a constant other than 0 it is 1 and no remainder is formed. Stops: those of the divisions.
@@ -64,11 +49,10 @@ pub fn gcd<E: Arith>(alloc: Global, left: &Poly<E>, right: &Poly<E>) -> Result<P
     if left.is_zero() {
         return right.monic(alloc);
     }
-    match left.monic(alloc) {
-        Ok(left) => match right.monic(alloc) {
-            Ok(right) => monic_gcd(alloc, left, right),
-            Err(fail) => Err(fail),
-        },
-        Err(fail) => Err(fail),
+    let left = left.monic(alloc)?;
+    let right = right.monic(alloc)?;
+    if left.is_one() || right.is_one() {
+        return Ok(Poly::one(alloc)?);
     }
+    last_remainder(alloc, left, right)
 }

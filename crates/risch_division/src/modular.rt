@@ -1,25 +1,14 @@
 //! Inverses modulo a polynomial, and the solution of b·r + a·z = c, by Euclid's remainders with one coefficient
 //! (Bronstein, Symbolic Integration I, section 1.3).
 
-ghost use Rattle.std.specs.Prelude.{[], ◌∷◌, length, Ok};
-ghost use Rattle.risch_field.specs.Checked.{Agrees, and_then};
-ghost use Rattle.risch_polynomial.specs.Poly as poly;
+ghost use Rattle.std.specs.Prelude.{[], length};
+ghost use Rattle.risch_field.specs.Checked.{Agrees};
 ghost use Rattle.risch_polynomial.specs.Modular as modular;
 
 use crate::division::{div_rem, quo};
 use risch_field::{Arith, Fail};
 use risch_polynomial::Poly;
 use std::alloc::Global;
-
-/// p - q.
-fn less<E: Arith>(alloc: Global, from: &Poly<E>, by: &Poly<E>) -> Result<Poly<E>, Fail>
-    ensures { Agrees result (poly.sum E.ops from.now (poly.negatives E.ops by.now)) }
-{
-    match by.neg(alloc) {
-        Ok(negative) => from.add(alloc, &negative),
-        Err(_) => Err(Fail::Memory),
-    }
-}
 
 /// p - q·m.
 #[tactic(auto, using(risch_field::proofs::CheckedSteps::stop_passes, risch_field::proofs::CheckedSteps::value_passes), unfolding(risch_polynomial::specs::Modular::less_product))]
@@ -31,10 +20,9 @@ fn less_product<E: Arith>(
 ) -> Result<Poly<E>, Fail>
     ensures { Agrees result (modular.less_product E.ops from.now left.now right.now) }
 {
-    match left.mul(alloc, right) {
-        Ok(product) => less(alloc, from, &product),
-        Err(fail) => Err(fail),
-    }
+    let product = left.mul(alloc, right)?;
+    let negative = product.neg(alloc)?;
+    from.add(alloc, &negative)
 }
 
 /// s/r for a constant r other than 0, the last remainder with its coefficient s.
@@ -49,13 +37,9 @@ fn last_inverse<E: Arith>(
     match rest.coefficients() {
         [constant] => {
             let one = E::one();
-            match one.div(alloc, constant) {
-                Ok(inverse) => match factor.scale(alloc, &inverse) {
-                    Ok(scaled) => Ok(Some(scaled)),
-                    Err(fail) => Err(fail),
-                },
-                Err(fail) => Err(fail),
-            }
+            let inverse = one.div(alloc, constant)?;
+            let scaled = factor.scale(alloc, &inverse)?;
+            Ok(Some(scaled))
         }
         _ => Ok(None),
     }
@@ -91,47 +75,6 @@ fn inverse_from<E: Arith>(
     last_inverse(alloc, &rest, &factor)
 }
 
-/// r and z = (c - b·r) quo a.
-#[tactic(auto, using(risch_field::proofs::CheckedSteps::stop_passes, risch_field::proofs::CheckedSteps::value_passes))]
-fn completed<E: Arith>(
-    alloc: Global,
-    left: Poly<E>,
-    a: &Poly<E>,
-    b: &Poly<E>,
-    c: &Poly<E>,
-) -> Result<(Poly<E>, Poly<E>), Fail>
-    ensures { Agrees result (and_then (modular.less_product E.ops c.now b.now left) (λ n. and_then (poly.quo E.ops n a.now) (λ z. Ok (left, z)))) }
-{
-    match less_product(alloc, c, b, &left) {
-        Ok(rest) => match quo(alloc, &rest, a) {
-            Ok(right) => Ok((left, right)),
-            Err(fail) => Err(fail),
-        },
-        Err(fail) => Err(fail),
-    }
-}
-
-/// r = (i·p) rem a and z = (c - b·r) quo a.
-#[tactic(auto, using(risch_field::proofs::CheckedSteps::stop_passes, risch_field::proofs::CheckedSteps::value_passes))]
-fn solution_by<E: Arith>(
-    alloc: Global,
-    inverse: &Poly<E>,
-    small: &Poly<E>,
-    a: &Poly<E>,
-    b: &Poly<E>,
-    c: &Poly<E>,
-) -> Result<(Poly<E>, Poly<E>), Fail>
-    ensures { Agrees result (and_then (poly.product E.ops inverse.now small.now) (λ m. and_then (poly.division E.ops m a.now) (λ y. and_then (modular.less_product E.ops c.now b.now y.1) (λ n. and_then (poly.quo E.ops n a.now) (λ z. Ok (y.1, z)))))) }
-{
-    match inverse.mul(alloc, small) {
-        Ok(product) => match div_rem(alloc, &product, a) {
-            Ok((_, left)) => completed(alloc, left, a, b, c),
-            Err(fail) => Err(fail),
-        },
-        Err(fail) => Err(fail),
-    }
-}
-
 /// r and z with b·r + a·z = c and deg r < deg a, where i·b = 1 modulo a: r = (i·(c rem a)) rem a and z = (c - b·r) quo a.
 #[tactic(auto, using(risch_field::proofs::CheckedSteps::stop_passes, risch_field::proofs::CheckedSteps::value_passes), unfolding(risch_polynomial::specs::Modular::solution))]
 fn solution<E: Arith>(
@@ -143,27 +86,12 @@ fn solution<E: Arith>(
 ) -> Result<(Poly<E>, Poly<E>), Fail>
     ensures { Agrees result (modular.solution E.ops inverse.now a.now b.now c.now) }
 {
-    match div_rem(alloc, c, a) {
-        Ok((_, small)) => solution_by(alloc, inverse, &small, a, b, c),
-        Err(fail) => Err(fail),
-    }
-}
-
-/// i with i·b = 1 modulo a, from the remainder of b by a.
-fn inverse_of_rest<E: Arith>(
-    alloc: Global,
-    rest: Poly<E>,
-    modulus: &Poly<E>,
-) -> Result<Option<Poly<E>>, Fail>
-    ensures { Agrees result (modular.inverse_from E.ops (length modulus.now) modulus.now [] rest (E.ops.one ∷ [])) }
-{
-    match modulus.copy(alloc) {
-        Ok(above) => match Poly::one(alloc) {
-            Ok(one) => inverse_from(alloc, above, Poly::zero(alloc), rest, one),
-            Err(_) => Err(Fail::Memory),
-        },
-        Err(_) => Err(Fail::Memory),
-    }
+    let (_, small) = div_rem(alloc, c, a)?;
+    let product = inverse.mul(alloc, &small)?;
+    let (_, left) = div_rem(alloc, &product, a)?;
+    let rest = less_product(alloc, c, b, &left)?;
+    let right = quo(alloc, &rest, a)?;
+    Ok((left, right))
 }
 
 /// i with i·b = 1 modulo a, for a of degree at least 1; None where a and b are not coprime.
@@ -178,10 +106,10 @@ pub fn inverse_mod<E: Arith>(
 ) -> Result<Option<Poly<E>>, Fail>
     ensures { Agrees result (modular.inverse E.ops of.now modulus.now) }
 {
-    match div_rem(alloc, of, modulus) {
-        Ok((_, rest)) => inverse_of_rest(alloc, rest, modulus),
-        Err(fail) => Err(fail),
-    }
+    let (_, rest) = div_rem(alloc, of, modulus)?;
+    let above = modulus.copy(alloc)?;
+    let one = Poly::one(alloc)?;
+    inverse_from(alloc, above, Poly::zero(alloc), rest, one)
 }
 
 /// r and z with b·r + a·z = c and deg r < deg a, for a of degree at least 1; None where a and b are not coprime.
@@ -196,12 +124,11 @@ pub fn solve_mod<E: Arith>(
 ) -> Result<Option<(Poly<E>, Poly<E>)>, Fail>
     ensures { Agrees result (modular.solve E.ops a.now b.now c.now) }
 {
-    match inverse_mod(alloc, b, a) {
-        Ok(None) => Ok(None),
-        Ok(Some(inverse)) => match solution(alloc, &inverse, a, b, c) {
-            Ok(solution) => Ok(Some(solution)),
-            Err(fail) => Err(fail),
-        },
-        Err(fail) => Err(fail),
+    match inverse_mod(alloc, b, a)? {
+        None => Ok(None),
+        Some(inverse) => {
+            let solution = solution(alloc, &inverse, a, b, c)?;
+            Ok(Some(solution))
+        }
     }
 }

@@ -1,3 +1,2 @@
-pub mod AppendedLists
 pub mod LiftedPolynomials
 pub mod VariablePolynomial

@@ -58,15 +58,12 @@ module _ {E : Type 0} (o : Ops E) where
       if poly.is_one o g then Ok (n, m) else
       and_then (poly.quo o n g) (λ n'. and_then (poly.quo o m g) (λ m'. Ok (n', m')))
 
-  -- u·n and u·m
-  abbrev pub scaled_by : E → List E → List E → Checked (List E × List E)
-  scaled_by u n m = and_then (poly.scaled o u n) (λ n'. and_then (poly.scaled o u m) (λ m'. Ok (n', m')))
-
   -- both scaled so that the denominator is monic
   unfoldable pub scaled : List E → List E → Checked (List E × List E)
   scaled n m =
       if o.is_one (poly.last o m) then Ok (n, m) else
-      and_then (o.quotient o.one (poly.last o m)) (λ u. scaled_by u n m)
+      and_then (o.quotient o.one (poly.last o m)) (λ u.
+      and_then (poly.scaled o u n) (λ n'. and_then (poly.scaled o u m) (λ m'. Ok (n', m'))))
 
   -- n/m for coprime n and m, with a monic denominator
   abbrev pub scaled_element : List E → List E → Checked (Over E)
@@ -87,30 +84,22 @@ module _ {E : Type 0} (o : Ops E) where
   abbrev pub sum_over : List E → List E → List E → Checked (Over E)
   sum_over n n' m = and_then (poly.sum o n n') (λ s. normal_form s m)
 
-  -- (n + n')/m for coprime n + n' and m
-  abbrev pub element_of_sum : List E → List E → List E → Checked (Over E)
-  element_of_sum n n' m = and_then (poly.sum o n n') (λ s. element s m)
-
   -- (n + n'·m)/m
   abbrev pub sum_with_polynomial : List E → List E → List E → Checked (Over E)
-  sum_with_polynomial n m n' = and_then (poly.product o n' m) (λ a. element_of_sum n a m)
+  sum_with_polynomial n m n' = and_then (poly.product o n' m) (λ a. and_then (poly.sum o n a) (λ s. element s m))
 
   -- (n·m' + n')/m'
   abbrev pub polynomial_with_sum : List E → List E → List E → Checked (Over E)
-  polynomial_with_sum n n' m' = and_then (poly.product o n m') (λ a. element_of_sum a n' m')
-
-  -- the normal form of n/(m·m')
-  abbrev pub over_product : List E → List E → List E → Checked (Over E)
-  over_product n m m' = and_then (poly.product o m m') (λ d. normal_form n d)
-
-  -- the normal form of (n + n')/(m·m')
-  abbrev pub sum_over_both : List E → List E → List E → List E → Checked (Over E)
-  sum_over_both n n' m m' = and_then (poly.sum o n n') (λ s. over_product s m m')
+  polynomial_with_sum n n' m' = and_then (poly.product o n m') (λ a. and_then (poly.sum o a n') (λ s. element s m'))
 
   -- the normal form of (n·m' + n'·m)/(m·m')
   abbrev pub sum_over_product : List E → List E → List E → List E → Checked (Over E)
   sum_over_product n m n' m' =
-      and_then (poly.product o n m') (λ a. and_then (poly.product o n' m) (λ b. sum_over_both a b m m'))
+      and_then (poly.product o n m') (λ a.
+      and_then (poly.product o n' m) (λ b.
+      and_then (poly.sum o a b) (λ s.
+      and_then (poly.product o m m') (λ d.
+      normal_form s d))))
 
   -- the sum of n/m and n'/m'
   unfoldable pub quotient_sum : List E → List E → List E → List E → Checked (Over E)
@@ -120,13 +109,11 @@ module _ {E : Type 0} (o : Ops E) where
       if poly.is_one o m then polynomial_with_sum n n' m' else
       sum_over_product n m n' m'
 
-  -- the sum with a polynomial, on the left or on the right
-  abbrev pub sum_with_whole : Bool → List E → List E → List E → Checked (Over E)
-  sum_with_whole left p n m = if left then quotient_sum p (o.one ∷ []) n m else quotient_sum n m p (o.one ∷ [])
-
   -- the sum with an element of a level below, on the left or on the right; a sum with 0 forms nothing
   unfoldable pub sum_with : Bool → E → Over E → List E → List E → Checked (Over E)
-  sum_with left a e n m = if o.is_zero a then Ok e else sum_with_whole left (a ∷ []) n m
+  sum_with left a e n m =
+      if o.is_zero a then Ok e else
+      if left then quotient_sum (a ∷ []) (o.one ∷ []) n m else quotient_sum n m (a ∷ []) (o.one ∷ [])
 
   -- a + b
   abbrev pub sum : Over E → Over E → Checked (Over E)
@@ -146,7 +133,8 @@ module _ {E : Type 0} (o : Ops E) where
   unfoldable pub quotient_product : List E → List E → List E → List E → Checked (Over E)
   quotient_product n m n' m' =
       and_then (poly.product o n n') (λ a.
-      if poly.is_one o m && poly.is_one o m' then normal_form a m else over_product a m m')
+      if poly.is_one o m && poly.is_one o m' then normal_form a m else
+      and_then (poly.product o m m') (λ b. normal_form a b))
 
   -- a·b
   abbrev pub product : Over E → Over E → Checked (Over E)
@@ -155,15 +143,13 @@ module _ {E : Type 0} (o : Ops E) where
   product (Quotient r) (Below b) = scaled_product b (Quotient r) r.0 r.1
   product (Quotient r) (Quotient s) = quotient_product r.0 r.1 s.0 s.1
 
-  -- (u·m)/(u·n) for the inverse u of the leading coefficient of n
-  abbrev pub inverse_by : E → List E → List E → Checked (Over E)
-  inverse_by u n m = and_then (poly.scaled o u m) (λ n'. and_then (poly.monic o n) (λ m'. element n' m'))
-
   -- m/n for n other than 0
   unfoldable pub inverse_ratio : List E → List E → Checked (Over E)
   inverse_ratio n m =
       if poly.is_zero o n then Ok (Below o.zero) else
-      and_then (o.quotient o.one (poly.last o n)) (λ u. inverse_by u n m)
+      and_then (o.quotient o.one (poly.last o n)) (λ u.
+      and_then (poly.scaled o u m) (λ n'.
+      and_then (poly.monic o n) (λ m'. element n' m')))
 
   -- 1/e for e other than 0
   abbrev pub inverse : Over E → Checked (Over E)

@@ -15,10 +15,7 @@ fn own_denominator<E: Arith>(alloc: Global, element: &Over<E>) -> Result<Poly<Ov
     ensures { IfOk result (λ it. it ≡ spec.own_denominator E.ops element.now) }
 {
     match element {
-        Over::Below(_) => match Poly::one(alloc) {
-            Ok(one) => lifted(alloc, &one),
-            Err(error) => Err(error),
-        },
+        Over::Below(_) => Poly::one(alloc),
         Over::Quotient(ratio) => lifted(alloc, &ratio.den),
     }
 }
@@ -51,12 +48,8 @@ impl<E: Denominator> Denominator for Over<E> {
         if down == 0 {
             return own_denominator(alloc, self);
         }
-        match lowered_element(alloc, self) {
-            Ok(element) => match element.denominator(alloc, down - 1) {
-                Ok(below) => lifted(alloc, &below),
-                Err(error) => Err(error),
-            },
-            Err(error) => Err(error),
-        }
+        let element = lowered_element(alloc, self)?;
+        let below = element.denominator(alloc, down - 1)?;
+        lifted(alloc, &below)
     }
 }

@@ -2,9 +2,8 @@
 //!
 //! An element is one of E, or n/m with polynomials n and m over E: m is monic, and t occurs in n or m. An element e of E counts as e/1.
 
-ghost use Rattle.std.specs.Prelude.{◌≡◌, ◌≤◌, ◌∷◌, [], ◌+◌, IfOk, IsFalse, Ok};
+ghost use Rattle.std.specs.Prelude.{◌≡◌, ◌≤◌, IfOk, IsFalse};
 ghost use Rattle.risch_field.specs.Checked.{Agrees, map_ok};
-ghost use Rattle.risch_polynomial.specs.Poly as poly;
 ghost use Rattle.risch_level.specs.Over as spec;
 ghost use Rattle.risch_level.specs.declared.over.Over.TheVariants.{Below, Quotient};
 
@@ -75,46 +74,6 @@ pub fn element<E: Arith>(num: Poly<E>, den: Poly<E>) -> Result<Over<E>, Fail>
     quotient(num, den)
 }
 
-/// n/m for coprime n and m, m monic, where m stays.
-fn element_over<E: Arith>(alloc: Global, num: Poly<E>, den: &Poly<E>) -> Result<Over<E>, Fail>
-    ensures { Agrees result (spec.element E.ops num den.now) }
-{
-    match den.copy(alloc) {
-        Ok(den) => element(num, den),
-        Err(_) => Err(Fail::Memory),
-    }
-}
-
-/// n and m, where m is formed.
-fn paired<E: Arith>(num: Poly<E>, den: Result<Poly<E>, Fail>) -> Result<(Poly<E>, Poly<E>), Fail>
-    ensures { result ≡ map_ok (λ m. (num, m)) den }
-{
-    match den {
-        Ok(den) => Ok((num, den)),
-        Err(fail) => Err(fail),
-    }
-}
-
-/// p once more.
-fn copied<E: Arith>(alloc: Global, of: &Poly<E>) -> Result<Poly<E>, Fail>
-    ensures { Agrees result (Ok of.now) }
-{
-    match of.copy(alloc) {
-        Ok(copy) => Ok(copy),
-        Err(_) => Err(Fail::Memory),
-    }
-}
-
-/// n and m once more.
-fn copies<E: Arith>(alloc: Global, num: &Poly<E>, den: &Poly<E>) -> Result<(Poly<E>, Poly<E>), Fail>
-    ensures { Agrees result (Ok (num.now, den.now)) }
-{
-    match copied(alloc, num) {
-        Ok(num) => paired(num, copied(alloc, den)),
-        Err(fail) => Err(fail),
-    }
-}
-
 /// n/g and m/g for a common divisor g; for g = 1 nothing is formed.
 #[tactic(auto, using(risch_field::proofs::CheckedSteps::stop_passes, risch_field::proofs::CheckedSteps::value_passes), unfolding(crate::specs::Over::divided))]
 fn divided<E: Arith>(
@@ -126,28 +85,11 @@ fn divided<E: Arith>(
     ensures { Agrees result (spec.divided E.ops divisor.now num.now den.now) }
 {
     if divisor.is_one() {
-        return copies(alloc, num, den);
+        return Ok((num.copy(alloc)?, den.copy(alloc)?));
     }
-    match quo(alloc, num, divisor) {
-        Ok(num) => paired(num, quo(alloc, den, divisor)),
-        Err(fail) => Err(fail),
-    }
-}
-
-/// u·n and u·m.
-#[tactic(auto, using(risch_field::proofs::CheckedSteps::stop_passes, risch_field::proofs::CheckedSteps::value_passes))]
-fn scaled_by<E: Arith>(
-    alloc: Global,
-    by: &E,
-    num: &Poly<E>,
-    den: &Poly<E>,
-) -> Result<(Poly<E>, Poly<E>), Fail>
-    ensures { Agrees result (spec.scaled_by E.ops by.now num.now den.now) }
-{
-    match num.scale(alloc, by) {
-        Ok(num) => paired(num, den.scale(alloc, by)),
-        Err(fail) => Err(fail),
-    }
+    let num = quo(alloc, num, divisor)?;
+    let den = quo(alloc, den, divisor)?;
+    Ok((num, den))
 }
 
 /// u·n and u·m with u = 1/lc(m); for lc(m) = 1 nothing is formed.
@@ -158,10 +100,10 @@ fn scaled<E: Arith>(alloc: Global, num: Poly<E>, den: Poly<E>) -> Result<(Poly<E
     if den.is_monic() {
         return Ok((num, den));
     }
-    match den.inverse_of_last(alloc) {
-        Ok(inverse) => scaled_by(alloc, &inverse, &num, &den),
-        Err(fail) => Err(fail),
-    }
+    let inverse = den.inverse_of_last(alloc)?;
+    let num = num.scale(alloc, &inverse)?;
+    let den = den.scale(alloc, &inverse)?;
+    Ok((num, den))
 }
 
 /// n/m for coprime n and m, with a monic denominator.
@@ -169,10 +111,8 @@ fn scaled<E: Arith>(alloc: Global, num: Poly<E>, den: Poly<E>) -> Result<(Poly<E
 fn scaled_element<E: Arith>(alloc: Global, num: Poly<E>, den: Poly<E>) -> Result<Over<E>, Fail>
     ensures { Agrees result (spec.scaled_element E.ops num den) }
 {
-    match scaled(alloc, num, den) {
-        Ok((num, den)) => element(num, den),
-        Err(fail) => Err(fail),
-    }
+    let (num, den) = scaled(alloc, num, den)?;
+    element(num, den)
 }
 
 /// n/m without the common divisor of n and m, with a monic denominator.
@@ -181,10 +121,8 @@ fn lowest_terms<E: Arith>(alloc: Global, num: &Poly<E>, den: &Poly<E>) -> Result
     ensures { Agrees result (spec.lowest_terms E.ops num.now den.now) }
 {
     let divisor = gcd(alloc, num, den)?;
-    match divided(alloc, &divisor, num, den) {
-        Ok((num, den)) => scaled_element(alloc, num, den),
-        Err(fail) => Err(fail),
-    }
+    let (num, den) = divided(alloc, &divisor, num, den)?;
+    scaled_element(alloc, num, den)
 }
 
 /// The normal form of n/m: without the common divisor of n and m, and with a monic denominator.
@@ -203,32 +141,6 @@ pub fn normal_form<E: Arith>(alloc: Global, num: Poly<E>, den: Poly<E>) -> Resul
     lowest_terms(alloc, &num, &den)
 }
 
-/// The normal form of n/m, where m stays.
-fn normal_form_over<E: Arith>(alloc: Global, num: Poly<E>, den: &Poly<E>) -> Result<Over<E>, Fail>
-    ensures { Agrees result (spec.normal_form E.ops num den.now) }
-{
-    match den.copy(alloc) {
-        Ok(den) => normal_form(alloc, num, den),
-        Err(_) => Err(Fail::Memory),
-    }
-}
-
-/// The normal form of n/(m·m').
-#[tactic(auto, using(risch_field::proofs::CheckedSteps::stop_passes, risch_field::proofs::CheckedSteps::value_passes))]
-fn over_product<E: Arith>(
-    alloc: Global,
-    num: Poly<E>,
-    den: &Poly<E>,
-    den2: &Poly<E>,
-) -> Result<Over<E>, Fail>
-    ensures { Agrees result (spec.over_product E.ops num den.now den2.now) }
-{
-    match den.mul(alloc, den2) {
-        Ok(product) => normal_form(alloc, num, product),
-        Err(fail) => Err(fail),
-    }
-}
-
 /// The normal form of (n + n')/m.
 #[tactic(auto, using(risch_field::proofs::CheckedSteps::stop_passes, risch_field::proofs::CheckedSteps::value_passes))]
 fn sum_over<E: Arith>(
@@ -239,26 +151,8 @@ fn sum_over<E: Arith>(
 ) -> Result<Over<E>, Fail>
     ensures { Agrees result (spec.sum_over E.ops num.now num2.now den.now) }
 {
-    match num.add(alloc, num2) {
-        Ok(sum) => normal_form_over(alloc, sum, den),
-        Err(fail) => Err(fail),
-    }
-}
-
-/// (n + n')/m for coprime n + n' and m, m monic.
-#[tactic(auto, using(risch_field::proofs::CheckedSteps::stop_passes, risch_field::proofs::CheckedSteps::value_passes))]
-fn element_of_sum<E: Arith>(
-    alloc: Global,
-    num: &Poly<E>,
-    num2: &Poly<E>,
-    den: &Poly<E>,
-) -> Result<Over<E>, Fail>
-    ensures { Agrees result (spec.element_of_sum E.ops num.now num2.now den.now) }
-{
-    match num.add(alloc, num2) {
-        Ok(sum) => element_over(alloc, sum, den),
-        Err(fail) => Err(fail),
-    }
+    let sum = num.add(alloc, num2)?;
+    normal_form(alloc, sum, den.copy(alloc)?)
 }
 
 /// (n + n'·m)/m.
@@ -271,10 +165,9 @@ fn sum_with_polynomial<E: Arith>(
 ) -> Result<Over<E>, Fail>
     ensures { Agrees result (spec.sum_with_polynomial E.ops num.now den.now num2.now) }
 {
-    match num2.mul(alloc, den) {
-        Ok(right) => element_of_sum(alloc, num, &right, den),
-        Err(fail) => Err(fail),
-    }
+    let right = num2.mul(alloc, den)?;
+    let sum = num.add(alloc, &right)?;
+    element(sum, den.copy(alloc)?)
 }
 
 /// (n·m' + n')/m'.
@@ -287,27 +180,9 @@ fn polynomial_with_sum<E: Arith>(
 ) -> Result<Over<E>, Fail>
     ensures { Agrees result (spec.polynomial_with_sum E.ops num.now num2.now den2.now) }
 {
-    match num.mul(alloc, den2) {
-        Ok(left) => element_of_sum(alloc, &left, num2, den2),
-        Err(fail) => Err(fail),
-    }
-}
-
-/// The normal form of (n + n')/(m·m').
-#[tactic(auto, using(risch_field::proofs::CheckedSteps::stop_passes, risch_field::proofs::CheckedSteps::value_passes))]
-fn sum_over_both<E: Arith>(
-    alloc: Global,
-    num: &Poly<E>,
-    num2: &Poly<E>,
-    den: &Poly<E>,
-    den2: &Poly<E>,
-) -> Result<Over<E>, Fail>
-    ensures { Agrees result (spec.sum_over_both E.ops num.now num2.now den.now den2.now) }
-{
-    match num.add(alloc, num2) {
-        Ok(sum) => over_product(alloc, sum, den, den2),
-        Err(fail) => Err(fail),
-    }
+    let left = num.mul(alloc, den2)?;
+    let sum = left.add(alloc, num2)?;
+    element(sum, den2.copy(alloc)?)
 }
 
 /// The normal form of (n·m' + n'·m)/(m·m').
@@ -321,13 +196,11 @@ fn sum_over_product<E: Arith>(
 ) -> Result<Over<E>, Fail>
     ensures { Agrees result (spec.sum_over_product E.ops num.now den.now num2.now den2.now) }
 {
-    match num.mul(alloc, den2) {
-        Ok(left) => match num2.mul(alloc, den) {
-            Ok(right) => sum_over_both(alloc, &left, &right, den, den2),
-            Err(fail) => Err(fail),
-        },
-        Err(fail) => Err(fail),
-    }
+    let left = num.mul(alloc, den2)?;
+    let right = num2.mul(alloc, den)?;
+    let sum = left.add(alloc, &right)?;
+    let product = den.mul(alloc, den2)?;
+    normal_form(alloc, sum, product)
 }
 
 /// n/m + n'/m': the normal form of (n + n')/m where m = m', (n + n'·m)/m where m' = 1, (n·m' + n')/m' where m = 1, and else the
@@ -354,48 +227,6 @@ fn quotient_sum<E: Arith>(
     sum_over_product(alloc, num, den, num2, den2)
 }
 
-/// The constant polynomial e, for e other than 0.
-fn constant<E: Arith>(alloc: Global, value: &E) -> Result<Poly<E>, AllocError>
-    requires { IsFalse (E.ops.is_zero value.now) }
-    ensures { IfOk result (λ it. it ≡ value.now ∷ []) }
-{
-    match value.copy(alloc) {
-        Ok(value) => Poly::constant(alloc, value),
-        Err(error) => Err(error),
-    }
-}
-
-/// p + n/m, or n/m + p, for a polynomial p.
-fn sum_with_whole<E: Arith>(
-    alloc: Global,
-    left: bool,
-    whole: &Poly<E>,
-    ratio: &Ratio<E>,
-) -> Result<Over<E>, Fail>
-    ensures { Agrees result (spec.sum_with_whole E.ops left whole.now ratio.now.0 ratio.now.1) }
-{
-    match Poly::one(alloc) {
-        Ok(one) => {
-            if left {
-                quotient_sum(alloc, whole, &one, &ratio.num, &ratio.den)
-            } else {
-                quotient_sum(alloc, &ratio.num, &ratio.den, whole, &one)
-            }
-        }
-        Err(_) => Err(Fail::Memory),
-    }
-}
-
-/// n/m once more, as an element.
-fn kept<E: Arith>(alloc: Global, ratio: &Ratio<E>) -> Result<Over<E>, Fail>
-    ensures { Agrees result (Ok (Quotient ratio.now)) }
-{
-    match ratio.copy(alloc) {
-        Ok(copy) => Ok(Over::Quotient(copy)),
-        Err(_) => Err(Fail::Memory),
-    }
-}
-
 /// e + n/m, or n/m + e, for e in E; for e = 0 nothing is formed.
 #[tactic(auto, using(risch_field::proofs::CheckedSteps::stop_passes, risch_field::proofs::CheckedSteps::value_passes), unfolding(crate::specs::Over::sum_with))]
 fn sum_with<E: Arith>(
@@ -407,11 +238,14 @@ fn sum_with<E: Arith>(
     ensures { Agrees result (spec.sum_with E.ops left below.now (Quotient ratio.now) ratio.now.0 ratio.now.1) }
 {
     if below.is_zero() {
-        return kept(alloc, ratio);
+        return Ok(Over::Quotient(ratio.copy(alloc)?));
     }
-    match constant(alloc, below) {
-        Ok(constant) => sum_with_whole(alloc, left, &constant, ratio),
-        Err(_) => Err(Fail::Memory),
+    let constant = Poly::constant(alloc, below.copy(alloc)?)?;
+    let one = Poly::one(alloc)?;
+    if left {
+        quotient_sum(alloc, &constant, &one, &ratio.num, &ratio.den)
+    } else {
+        quotient_sum(alloc, &ratio.num, &ratio.den, &constant, &one)
     }
 }
 
@@ -421,18 +255,13 @@ fn scaled_product<E: Arith>(alloc: Global, by: &E, ratio: &Ratio<E>) -> Result<O
     ensures { Agrees result (spec.scaled_product E.ops by.now (Quotient ratio.now) ratio.now.0 ratio.now.1) }
 {
     if by.is_zero() {
-        return match by.copy(alloc) {
-            Ok(zero) => Ok(Over::Below(zero)),
-            Err(_) => Err(Fail::Memory),
-        };
+        return Ok(Over::Below(by.copy(alloc)?));
     }
     if by.is_one() {
-        return kept(alloc, ratio);
+        return Ok(Over::Quotient(ratio.copy(alloc)?));
     }
-    match ratio.num.scale(alloc, by) {
-        Ok(num) => element_over(alloc, num, &ratio.den),
-        Err(fail) => Err(fail),
-    }
+    let num = ratio.num.scale(alloc, by)?;
+    element(num, ratio.den.copy(alloc)?)
 }
 
 /// (n/m)·(n'/m'), the normal form of (n·n')/(m·m').
@@ -446,16 +275,12 @@ fn quotient_product<E: Arith>(
 ) -> Result<Over<E>, Fail>
     ensures { Agrees result (spec.quotient_product E.ops num.now den.now num2.now den2.now) }
 {
-    match num.mul(alloc, num2) {
-        Ok(top) => {
-            if den.is_one() && den2.is_one() {
-                normal_form_over(alloc, top, den)
-            } else {
-                over_product(alloc, top, den, den2)
-            }
-        }
-        Err(fail) => Err(fail),
+    let top = num.mul(alloc, num2)?;
+    if den.is_one() && den2.is_one() {
+        return normal_form(alloc, top, den.copy(alloc)?);
     }
+    let bottom = den.mul(alloc, den2)?;
+    normal_form(alloc, top, bottom)
 }
 
 /// a·b.
@@ -480,20 +305,6 @@ fn product<E: Arith>(alloc: Global, left: &Over<E>, right: &Over<E>) -> Result<O
     }
 }
 
-/// (u·m)/(u·n) with u = 1/lc(n), for n other than 0.
-#[tactic(auto, using(risch_field::proofs::CheckedSteps::stop_passes, risch_field::proofs::CheckedSteps::value_passes))]
-fn inverse_by<E: Arith>(alloc: Global, by: &E, ratio: &Ratio<E>) -> Result<Over<E>, Fail>
-    ensures { Agrees result (spec.inverse_by E.ops by.now ratio.now.0 ratio.now.1) }
-{
-    match ratio.den.scale(alloc, by) {
-        Ok(num) => match ratio.num.monic(alloc) {
-            Ok(den) => element(num, den),
-            Err(fail) => Err(fail),
-        },
-        Err(fail) => Err(fail),
-    }
-}
-
 /// 1/(n/m) = (u·m)/(u·n) with u = 1/lc(n), for n other than 0.
 #[tactic(auto, using(risch_field::proofs::CheckedSteps::stop_passes, risch_field::proofs::CheckedSteps::value_passes), unfolding(crate::specs::Over::inverse_ratio))]
 fn inverse_ratio<E: Arith>(alloc: Global, ratio: &Ratio<E>) -> Result<Over<E>, Fail>
@@ -502,10 +313,10 @@ fn inverse_ratio<E: Arith>(alloc: Global, ratio: &Ratio<E>) -> Result<Over<E>, F
     if ratio.num.is_zero() {
         return Ok(Over::Below(E::zero()));
     }
-    match ratio.num.inverse_of_last(alloc) {
-        Ok(inverse) => inverse_by(alloc, &inverse, ratio),
-        Err(fail) => Err(fail),
-    }
+    let inverse = ratio.num.inverse_of_last(alloc)?;
+    let num = ratio.den.scale(alloc, &inverse)?;
+    let den = ratio.num.monic(alloc)?;
+    element(num, den)
 }
 
 /// 1/a.
@@ -530,21 +341,8 @@ fn inverse_product<E: Arith>(
 ) -> Result<Over<E>, Fail>
     ensures { Agrees result (spec.inverse_product E.ops left.now right.now) }
 {
-    match inverse(alloc, right) {
-        Ok(inverse) => product(alloc, left, &inverse),
-        Err(fail) => Err(fail),
-    }
-}
-
-/// n/m, where m stays.
-fn ratio_over<E: Arith>(alloc: Global, num: Poly<E>, den: &Poly<E>) -> Result<Ratio<E>, AllocError>
-    requires { poly.weight E.ops num + poly.weight E.ops den.now ≤ 65536 }
-    ensures { IfOk result (λ ratio. ratio ≡ (num, den.now)) }
-{
-    match den.copy(alloc) {
-        Ok(den) => Ok(Ratio { num, den }),
-        Err(error) => Err(error),
-    }
+    let inverse = inverse(alloc, right)?;
+    product(alloc, left, &inverse)
 }
 
 impl<E: Arith> Ratio<E> {
@@ -566,20 +364,10 @@ impl<E: Arith> Ratio<E> {
     fn copy(&self, alloc: Global) -> Result<Ratio<E>, AllocError>
         ensures { IfOk result (λ copy. copy ≡ self.now) }
     {
-        match self.num.copy(alloc) {
-            Ok(num) => ratio_over(alloc, num, &self.den),
-            Err(error) => Err(error),
-        }
-    }
-
-    /// (-n)/m.
-    fn neg(&self, alloc: Global) -> Result<Ratio<E>, AllocError>
-        ensures { IfOk result (λ negative. negative ≡ (poly.negatives E.ops self.now.0, self.now.1)) }
-    {
-        match self.num.neg(alloc) {
-            Ok(num) => ratio_over(alloc, num, &self.den),
-            Err(error) => Err(error),
-        }
+        Ok(Ratio {
+            num: self.num.copy(alloc)?,
+            den: self.den.copy(alloc)?,
+        })
     }
 }
 
@@ -641,27 +429,18 @@ impl<E: Arith> Arith for Over<E> {
 
     fn copy(&self, alloc: Global) -> Result<Over<E>, AllocError> {
         match self {
-            Over::Below(e) => match e.copy(alloc) {
-                Ok(copy) => Ok(Over::Below(copy)),
-                Err(error) => Err(error),
-            },
-            Over::Quotient(ratio) => match ratio.copy(alloc) {
-                Ok(copy) => Ok(Over::Quotient(copy)),
-                Err(error) => Err(error),
-            },
+            Over::Below(e) => Ok(Over::Below(e.copy(alloc)?)),
+            Over::Quotient(ratio) => Ok(Over::Quotient(ratio.copy(alloc)?)),
         }
     }
 
     fn neg(&self, alloc: Global) -> Result<Over<E>, AllocError> {
         match self {
-            Over::Below(e) => match e.neg(alloc) {
-                Ok(negative) => Ok(Over::Below(negative)),
-                Err(error) => Err(error),
-            },
-            Over::Quotient(ratio) => match ratio.neg(alloc) {
-                Ok(negative) => Ok(Over::Quotient(negative)),
-                Err(error) => Err(error),
-            },
+            Over::Below(e) => Ok(Over::Below(e.neg(alloc)?)),
+            Over::Quotient(ratio) => Ok(Over::Quotient(Ratio {
+                num: ratio.num.neg(alloc)?,
+                den: ratio.den.copy(alloc)?,
+            })),
         }
     }
 

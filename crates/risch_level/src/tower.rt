@@ -1,8 +1,7 @@
 //! Elements of a tower as seen at one of its levels: as numerators and denominators over the whole tower.
 
-ghost use Rattle.std.specs.Prelude.{◌≡◌, ◌++◌, ◌∷◌, [], ◌+◌, ◌<◌, ◌≤◌, List, map, IfOk, OnOk};
+ghost use Rattle.std.specs.Prelude.{◌≡◌, ◌++◌, ◌+◌, ◌<◌, ◌≤◌, List, map, IfOk, OnOk};
 ghost use Rattle.risch_field.specs.Checked.{Agrees};
-ghost use Rattle.risch_level.specs.Over.{numerator};
 ghost use Rattle.risch_level.specs.Tower as spec;
 ghost use Rattle.risch_level.specs.Tower.{Levels};
 ghost use Rattle.risch_level.specs.declared.over.Over.TheVariants.{Below};
@@ -13,22 +12,13 @@ use risch_frac::Frac;
 use risch_polynomial::Poly;
 use std::alloc::{AllocError, Global};
 
-/// Appends c as an element of the level above.
-fn push_below<E: Arith>(alloc: Global, to: &mut Vec<Over<E>>, item: &E) -> Result<(), AllocError>
-    ensures { OnOk result (to.new.items ≡ to.old.items ++ Below item.now ∷ []) }
-{
-    match item.copy(alloc) {
-        Ok(copy) => Ok(to.push(Over::Below(copy))?),
-        Err(error) => Err(error),
-    }
-}
-
 /// Appends p_0, p_1, .. as elements of the level above.
 fn push_lifted<E: Arith>(alloc: Global, to: &mut Vec<Over<E>>, from: &[E]) -> Result<(), AllocError>
     ensures { OnOk result (to.new.items ≡ to.old.items ++ map Below from.now) }
 {
     for item in from {
-        push_below(alloc, to, item)?;
+        let copy = item.copy(alloc)?;
+        to.push(Over::Below(copy))?;
     }
     Ok(())
 }
@@ -38,27 +28,9 @@ pub fn lifted<E: Arith>(alloc: Global, from: &Poly<E>) -> Result<Poly<Over<E>>, 
     ensures { IfOk result (λ it. it ≡ map Below from.now) }
 {
     let mut coefficients = Vec::new(alloc);
-    match push_lifted(alloc, &mut coefficients, from.coefficients()) {
-        Ok(()) => {
-            let weight = from.kept_weight();
-            Ok(Poly::kept(coefficients, weight))
-        }
-        Err(error) => Err(error),
-    }
-}
-
-/// Appends e as an element of the field below.
-fn push_lowered_element<E: Arith>(
-    alloc: Global,
-    to: &mut Vec<E>,
-    element: &Over<E>,
-) -> Result<(), AllocError>
-    ensures { OnOk result (to.new.items ≡ to.old.items ++ spec.lowered_element E.ops element.now ∷ []) }
-{
-    match lowered_element(alloc, element) {
-        Ok(copy) => Ok(to.push(copy)?),
-        Err(error) => Err(error),
-    }
+    push_lifted(alloc, &mut coefficients, from.coefficients())?;
+    let weight = from.kept_weight();
+    Ok(Poly::kept(coefficients, weight))
 }
 
 /// Appends p_0, p_1, .. as elements of the field below.
@@ -70,7 +42,8 @@ fn push_lowered<E: Arith>(
     ensures { OnOk result (to.new.items ≡ to.old.items ++ spec.lowered E.ops from.now) }
 {
     for item in from {
-        push_lowered_element(alloc, to, item)?;
+        let copy = lowered_element(alloc, item)?;
+        to.push(copy)?;
     }
     Ok(())
 }
@@ -80,7 +53,7 @@ pub fn lowered_element<E: Arith>(alloc: Global, element: &Over<E>) -> Result<E, 
     ensures { IfOk result (λ it. it ≡ spec.lowered_element E.ops element.now) }
 {
     match element {
-        Over::Below(value) => value.copy(alloc),
+        Over::Below(value) => Ok(value.copy(alloc)?),
         Over::Quotient(_) => Ok(E::zero()),
     }
 }
@@ -90,23 +63,8 @@ fn formed_below<E: Arith>(alloc: Global, from: &Poly<Over<E>>) -> Result<Poly<E>
     ensures { Agrees result (spec.formed_below E.ops from.now) }
 {
     let mut coefficients = Vec::new(alloc);
-    match push_lowered(alloc, &mut coefficients, from.coefficients()) {
-        Ok(()) => Poly::from_coefficients(coefficients),
-        Err(_) => Err(Fail::Memory),
-    }
-}
-
-/// e as a polynomial of degree 0, or 0.
-fn constant<E: Arith>(alloc: Global, value: &E) -> Result<Poly<E>, AllocError>
-    ensures { IfOk result (λ it. it ≡ numerator E.ops (Below value.now)) }
-{
-    if value.is_zero() {
-        return Ok(Poly::zero(alloc));
-    }
-    match value.copy(alloc) {
-        Ok(value) => Poly::constant(alloc, value),
-        Err(error) => Err(error),
-    }
+    push_lowered(alloc, &mut coefficients, from.coefficients())?;
+    Poly::from_coefficients(coefficients)
 }
 
 /// The numerator of e at its own level.
@@ -114,10 +72,13 @@ fn own_numerator<E: Arith>(alloc: Global, element: &Over<E>) -> Result<Poly<Over
     ensures { IfOk result (λ it. it ≡ spec.own_numerator E.ops element.now) }
 {
     match element {
-        Over::Below(value) => match constant(alloc, value) {
-            Ok(constant) => lifted(alloc, &constant),
-            Err(error) => Err(error),
-        },
+        Over::Below(value) => {
+            if value.is_zero() {
+                return Ok(Poly::zero(alloc));
+            }
+            let value = value.copy(alloc)?;
+            Poly::constant(alloc, Over::Below(value))
+        }
         Over::Quotient(ratio) => lifted(alloc, ratio.num()),
     }
 }
@@ -166,13 +127,9 @@ impl<E: Tower> Tower for Over<E> {
         if down == 0 {
             return own_numerator(alloc, self);
         }
-        match lowered_element(alloc, self) {
-            Ok(element) => match element.numerator(alloc, down - 1) {
-                Ok(below) => lifted(alloc, &below),
-                Err(error) => Err(error),
-            },
-            Err(error) => Err(error),
-        }
+        let element = lowered_element(alloc, self)?;
+        let below = element.numerator(alloc, down - 1)?;
+        lifted(alloc, &below)
     }
 
     #[tactic(auto, using(risch_field::proofs::CheckedSteps::stop_passes, risch_field::proofs::CheckedSteps::value_passes), unfolding(crate::specs::Tower::quotient_at))]
@@ -182,18 +139,11 @@ impl<E: Tower> Tower for Over<E> {
         num: &Poly<Over<E>>,
         den: &Poly<Over<E>>,
     ) -> Result<Over<E>, Fail> {
-        match formed_below(alloc, num) {
-            Ok(num) => match formed_below(alloc, den) {
-                Ok(den) => {
-                    if down == 0 {
-                        normal_form(alloc, num, den)
-                    } else {
-                        below(E::quotient(alloc, down - 1, &num, &den))
-                    }
-                }
-                Err(fail) => Err(fail),
-            },
-            Err(fail) => Err(fail),
+        let num = formed_below(alloc, num)?;
+        let den = formed_below(alloc, den)?;
+        if down == 0 {
+            return normal_form(alloc, num, den);
         }
+        below(E::quotient(alloc, down - 1, &num, &den))
     }
 }

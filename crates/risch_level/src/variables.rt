@@ -28,11 +28,7 @@ pub fn variable<E: Arith>(alloc: Global) -> Result<Over<E>, AllocError>
     requires light { E.ops.weight E.ops.one ≡ 1 }
     ensures { IfOk result (λ it. it ≡ spec.own_variable E.ops) }
 {
-    match own_polynomial(alloc) {
-        Ok(num) => match Poly::one(alloc) {
-            Ok(den) => Ok(Over::Quotient(Ratio { num, den })),
-            Err(error) => Err(error),
-        },
-        Err(error) => Err(error),
-    }
+    let num = own_polynomial(alloc)?;
+    let den = Poly::one(alloc)?;
+    Ok(Over::Quotient(Ratio { num, den }))
 }

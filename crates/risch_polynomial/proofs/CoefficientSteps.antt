@@ -1,11 +1,9 @@
--- The steps of loops over coefficients: one more, the end, and a stop.
+-- The steps of loops over coefficients: one more, and the end.
 use Rattle.std.specs.Prelude.{get_or, map}
-use Rattle.std.proofs.Common.{◌≡◌, ℕ, ◌+◌, ◌<◌, ◌≤◌, true, false, List, [], ◌∷◌, ◌++◌, Ok, length, take, drop, ◌∙◌, sym, ap, subst, refl, arith, append_assoc, take_all}
+use Rattle.std.proofs.Common.{◌≡◌, ℕ, ◌+◌, ◌<◌, ◌≤◌, true, false, List, [], ◌∷◌, ◌++◌, Ok, length, take, drop, ◌∙◌, sym, ap, refl, arith, append_assoc, take_all}
 use Rattle.std.proofs.lemmas.List.{map-append, take_more, drop_more, drop_all}
-use Rattle.risch_field.specs.Checked.{Checked, and_then, IsStopOf}
-use Rattle.risch_field.specs.declared.Fail.{Fail}
+use Rattle.risch_field.specs.Checked.{Checked, and_then}
 use Rattle.risch_field.specs.Ops.{Ops}
-use Rattle.risch_field.proofs.CheckedSteps.{stop_passes}
 use Rattle.risch_polynomial.specs.Poly as poly
 
 pub appended : {E : Type 0} (start now next : List E) (p : List E) (i : ℕ) (x : E) → i < length p → x ≡ get_or p i x →
@@ -33,12 +31,6 @@ module _ {E : Type 0} (o : Ops E) where
   pub scaled-more : (whole : Checked (List E)) (formed next : List E) (by : E) (p : List E) (i : ℕ) (x c : E) → i < length p → x ≡ get_or p i x →
       whole ≡ poly.scaled_onto o formed by (drop i p) → o.product by x ≡ Ok c → next ≡ formed ++ c ∷ [] → whole ≡ poly.scaled_onto o next by (drop (i + 1) p)
   scaled-more whole formed next by p i x c less is so_far product e = so_far ∙ ap (poly.scaled_onto o formed by) (rest p i x less is) ∙ rw (product, e) refl
-
-  pub scaled-stops : (stop : Fail) (whole : Checked (List E)) (formed : List E) (by : E) (p : List E) (i : ℕ) (x : E) → i < length p → x ≡ get_or p i x →
-      whole ≡ poly.scaled_onto o formed by (drop i p) → IsStopOf stop (o.product by x) → IsStopOf stop whole
-  scaled-stops stop whole formed by p i x less is so_far h =
-      subst (IsStopOf stop) (sym (so_far ∙ ap (poly.scaled_onto o formed by) (rest p i x less is)))
-      (stop_passes stop (o.product by x) (λ c. poly.scaled_onto o (formed ++ c ∷ []) by (drop (i + 1) p)) h)
 
   pub scaled-ends : (whole : Checked (List E)) (formed : List E) (by : E) (p : List E) (i : ℕ) → length p ≤ i →
       whole ≡ poly.scaled_onto o formed by (drop i p) → whole ≡ Ok formed

@@ -59,7 +59,7 @@ pub(crate) fn same_items<E: Arith>(left: &[E], right: &[E]) -> bool
 }
 
 /// Appends c.
-pub(crate) fn push_item<E: Drop>(to: &mut Vec<E>, item: E) -> Result<(), AllocError>
+fn push_item<E: Drop>(to: &mut Vec<E>, item: E) -> Result<(), AllocError>
     ensures { OnOk result (to.new.items ≡ to.old.items ++ item ∷ []) }
 {
     Ok(to.push(item)?)
@@ -69,20 +69,16 @@ pub(crate) fn push_item<E: Drop>(to: &mut Vec<E>, item: E) -> Result<(), AllocEr
 fn push_copy<E: Arith>(alloc: Global, to: &mut Vec<E>, item: &E) -> Result<(), AllocError>
     ensures { OnOk result (to.new.items ≡ to.old.items ++ item.now ∷ []) }
 {
-    match item.copy(alloc) {
-        Ok(copy) => push_item(to, copy),
-        Err(error) => Err(error),
-    }
+    let copy = item.copy(alloc)?;
+    push_item(to, copy)
 }
 
 /// Appends -c.
 fn push_negative<E: Arith>(alloc: Global, to: &mut Vec<E>, item: &E) -> Result<(), AllocError>
     ensures { OnOk result (to.new.items ≡ to.old.items ++ E.ops.negative item.now ∷ []) }
 {
-    match item.neg(alloc) {
-        Ok(negative) => push_item(to, negative),
-        Err(error) => Err(error),
-    }
+    let negative = item.neg(alloc)?;
+    push_item(to, negative)
 }
 
 /// 0, 0, .., as many as `count`.
@@ -131,10 +127,8 @@ pub(crate) fn push_sums<E: Arith>(
 {
     let both = left.len().min(right.len());
     for i in 0..both {
-        match left[i].add(alloc, &right[i]) {
-            Ok(sum) => push_item(sums, sum)?,
-            Err(fail) => return Err(fail),
-        }
+        let sum = left[i].add(alloc, &right[i])?;
+        push_item(sums, sum)?;
     }
     push_copies(alloc, sums, &left[both..])?;
     push_copies(alloc, sums, &right[both..])?;
@@ -151,10 +145,8 @@ pub(crate) fn push_scaled<E: Arith>(
     ensures { AgreesWith result scaled.new.items (poly.scaled_onto E.ops scaled.old.items by.now items.now) }
 {
     for i in 0..items.len() {
-        match by.mul(alloc, &items[i]) {
-            Ok(product) => push_item(scaled, product)?,
-            Err(fail) => return Err(fail),
-        }
+        let product = by.mul(alloc, &items[i])?;
+        push_item(scaled, product)?;
     }
     Ok(())
 }

@@ -1,15 +1,15 @@
 //! Polynomials in one variable t over a field: sum, product, multiple and derivative
 //! (Bronstein, Symbolic Integration I, section 1.1).
 
-ghost use Rattle.std.specs.Prelude.{◌≡◌, ◌≤◌, ◌<◌, ◌+◌, ◌++◌, ◌∷◌, [], length, vec_len, IfOk, IsTrue, IsFalse, ◌↔◌, slice_get};
+ghost use Rattle.std.specs.Prelude.{◌≡◌, ◌≤◌, ◌<◌, ◌+◌, ◌∷◌, [], length, IfOk, IsTrue, IsFalse, ◌↔◌, slice_get};
 ghost use Rattle.std.specs.Option.{option_copied};
-ghost use Rattle.risch_field.specs.Checked.{Agrees, and_then};
+ghost use Rattle.risch_field.specs.Checked.{Agrees};
 ghost use Rattle.risch_polynomial.specs.Poly as poly;
 ghost use Rattle.risch_polynomial.specs.Polynomial.{IsPolynomial};
 
 use crate::coefficients::{
-    add_rows, push_copies, push_item, push_multiples, push_negatives, push_scaled, push_sums,
-    same_items, trim, weigh, zeros,
+    add_rows, push_copies, push_multiples, push_negatives, push_scaled, push_sums, same_items,
+    trim, weigh, zeros,
 };
 use risch_field::{Arith, Fail};
 use std::alloc::{AllocError, Global};
@@ -68,13 +68,11 @@ impl<E: Arith> Poly<E> {
     {
         let weight = value.weight();
         let mut coefficients = Vec::new(alloc);
-        match push_item(&mut coefficients, value) {
-            Ok(()) => Ok(Poly {
-                coefficients,
-                weight,
-            }),
-            Err(error) => Err(error),
-        }
+        coefficients.push(value)?;
+        Ok(Poly {
+            coefficients,
+            weight,
+        })
     }
 
     /// c·t^e, which is 0 for c = 0.
@@ -90,21 +88,9 @@ impl<E: Arith> Poly<E> {
         if exponent > MOST_DEGREE {
             return Err(Fail::Size);
         }
-        match zeros(alloc, usize::from(exponent)) {
-            Ok(zeros) => Poly::ended(zeros, value),
-            Err(_) => Err(Fail::Memory),
-        }
-    }
-
-    /// The polynomial with these coefficients from exponent 0, and then this one; those at the end that are 0 are dropped.
-    fn ended(coefficients: Vec<E>, last: E) -> Result<Poly<E>, Fail>
-        ensures { Agrees result (poly.sized E.ops (poly.trimmed E.ops (coefficients.items ++ last ∷ []))) }
-    {
-        let mut coefficients = coefficients;
-        match push_item(&mut coefficients, last) {
-            Ok(()) => Poly::from_coefficients(coefficients),
-            Err(_) => Err(Fail::Memory),
-        }
+        let mut coefficients = zeros(alloc, usize::from(exponent))?;
+        coefficients.push(value)?;
+        Poly::from_coefficients(coefficients)
     }
 
     /// The polynomial with these coefficients from exponent 0; those at the end that are 0 are dropped.
@@ -163,14 +149,8 @@ impl<E: Arith> Poly<E> {
         ensures { option_copied result ≡ poly.nonzero E.ops (slice_get self.now exponent) }
     {
         match self.coefficients().get(usize::from(exponent)) {
-            Some(coefficient) => {
-                if coefficient.is_zero() {
-                    None
-                } else {
-                    Some(coefficient)
-                }
-            }
-            None => None,
+            Some(coefficient) if !coefficient.is_zero() => Some(coefficient),
+            _ => None,
         }
     }
 
@@ -229,13 +209,11 @@ impl<E: Arith> Poly<E> {
         ensures { IfOk result (λ copy. copy ≡ self.now) }
     {
         let mut coefficients = Vec::new(alloc);
-        match push_copies(alloc, &mut coefficients, &self.coefficients) {
-            Ok(()) => Ok(Poly {
-                coefficients,
-                weight: self.weight,
-            }),
-            Err(error) => Err(error),
-        }
+        push_copies(alloc, &mut coefficients, &self.coefficients)?;
+        Ok(Poly {
+            coefficients,
+            weight: self.weight,
+        })
     }
 
     /// -p, for which nothing is formed.
@@ -244,13 +222,11 @@ impl<E: Arith> Poly<E> {
         ensures weight { poly.weight E.ops (poly.negatives E.ops self.now) ≡ poly.weight E.ops self.now }
     {
         let mut coefficients = Vec::new(alloc);
-        match push_negatives(alloc, &mut coefficients, self.coefficients()) {
-            Ok(()) => Ok(Poly {
-                coefficients,
-                weight: self.weight,
-            }),
-            Err(error) => Err(error),
-        }
+        push_negatives(alloc, &mut coefficients, self.coefficients())?;
+        Ok(Poly {
+            coefficients,
+            weight: self.weight,
+        })
     }
 
     /// p + q, with p_j + q_j at exponent j, formed for j = 0, 1, ..
@@ -261,10 +237,8 @@ impl<E: Arith> Poly<E> {
         ensures { Agrees result (poly.sum E.ops self.now other.now) }
     {
         let mut sums = Vec::new(alloc);
-        match push_sums(alloc, &mut sums, self.coefficients(), other.coefficients()) {
-            Ok(()) => Poly::from_coefficients(sums),
-            Err(fail) => Err(fail),
-        }
+        push_sums(alloc, &mut sums, self.coefficients(), other.coefficients())?;
+        Poly::from_coefficients(sums)
     }
 
     /// c·p, with c·p_j at exponent j, formed for j = 0, 1, ..
@@ -275,10 +249,8 @@ impl<E: Arith> Poly<E> {
         ensures { Agrees result (poly.scaled E.ops by.now self.now) }
     {
         let mut scaled = Vec::new(alloc);
-        match push_scaled(alloc, &mut scaled, by, self.coefficients()) {
-            Ok(()) => Poly::from_coefficients(scaled),
-            Err(fail) => Err(fail),
-        }
+        push_scaled(alloc, &mut scaled, by, self.coefficients())?;
+        Poly::from_coefficients(scaled)
     }
 
     /// p·q: for i = 0, 1, .. and within it for j = 0, 1, .. the product p_i·q_j is formed and added to the coefficient at i + j.
@@ -297,23 +269,9 @@ impl<E: Arith> Poly<E> {
         if left.len() + right.len() > usize::from(MOST_DEGREE) + 2 {
             return Err(Fail::Size);
         }
-        match zeros(alloc, left.len() + right.len() - 1) {
-            Ok(sums) => Poly::with_rows(alloc, sums, left, right),
-            Err(_) => Err(Fail::Memory),
-        }
-    }
-
-    /// The polynomial of these coefficients with p_i·q_j added at i + j, for i = 0, 1, .. and within it for j = 0, 1, ..
-    #[tactic(auto, using(risch_field::proofs::CheckedSteps::stop_passes, risch_field::proofs::CheckedSteps::value_passes))]
-    fn with_rows(alloc: Global, sums: Vec<E>, left: &[E], right: &[E]) -> Result<Poly<E>, Fail>
-        requires { length left.now + length right.now ≤ vec_len sums + 1 }
-        ensures { Agrees result (and_then (poly.rows E.ops sums.items 0 left.now right.now) (λ r. poly.sized E.ops (poly.trimmed E.ops r))) }
-    {
-        let mut sums = sums;
-        match add_rows(alloc, &mut sums, left, right) {
-            Ok(()) => Poly::from_coefficients(sums),
-            Err(fail) => Err(fail),
-        }
+        let mut sums = zeros(alloc, left.len() + right.len() - 1)?;
+        add_rows(alloc, &mut sums, left, right)?;
+        Poly::from_coefficients(sums)
     }
 
     /// dp/dt, with (j + 1)·p_(j+1) at exponent j, formed for j = 0, 1, ..; where p_(j+1) = 0 nothing is formed.
@@ -327,10 +285,8 @@ impl<E: Arith> Poly<E> {
             return Ok(Poly::zero(alloc));
         }
         let mut multiples = Vec::new(alloc);
-        match push_multiples(alloc, &mut multiples, &self.coefficients()[1..]) {
-            Ok(()) => Poly::from_coefficients(multiples),
-            Err(fail) => Err(fail),
-        }
+        push_multiples(alloc, &mut multiples, &self.coefficients()[1..])?;
+        Poly::from_coefficients(multiples)
     }
 
     /// p/lc(p), and 0 for p = 0: u = 1/lc(p), then u·p_j for j = 0, 1, .. below deg p; the leading coefficient becomes 1 unformed.
@@ -343,29 +299,17 @@ impl<E: Arith> Poly<E> {
         if self.is_zero() {
             return Ok(Poly::zero(alloc));
         }
-        match self.inverse_of_last(alloc) {
-            Ok(inverse) => self.monic_by(alloc, &inverse),
-            Err(fail) => Err(fail),
-        }
-    }
-
-    /// u·p_j for j = 0, 1, .. below deg p, and 1 as the leading coefficient, for p other than 0.
-    #[tactic(auto, using(risch_field::proofs::CheckedSteps::stop_passes, risch_field::proofs::CheckedSteps::value_passes))]
-    fn monic_by(&self, alloc: Global, by: &E) -> Result<Poly<E>, Fail>
-        requires { 0 < length self.now }
-        ensures { Agrees result (and_then (poly.scaled_onto E.ops [] by.now (poly.front E.ops self.now)) (λ r. poly.sized E.ops (poly.trimmed E.ops (r ++ E.ops.one ∷ [])))) }
-    {
         let coefficients = self.coefficients();
+        let inverse = self.inverse_of_last(alloc)?;
         let mut scaled = Vec::new(alloc);
-        match push_scaled(
+        push_scaled(
             alloc,
             &mut scaled,
-            by,
+            &inverse,
             &coefficients[..coefficients.len() - 1],
-        ) {
-            Ok(()) => Poly::ended(scaled, E::one()),
-            Err(fail) => Err(fail),
-        }
+        )?;
+        scaled.push(E::one())?;
+        Poly::from_coefficients(scaled)
     }
 
     /// The value of a constant polynomial.

@@ -13,4 +13,4 @@ returns g c =
 
 pub loop-i-preserved : goal.loop-i-preserved
 loop-i-preserved g c =
-    sums-more g.E.Arith.ops _ _ _ c.args.left.now c.args.right.now c.loop-i.i _ _ _ (omega arith) c.index-left-i.is (omega arith) c.index-right-i.is c.loop-i.invariant c.in-Ok.ensures c.in_ok-push_item-in-Ok.ensures
+    sums-more g.E.Arith.ops _ _ _ c.args.left.now c.args.right.now c.loop-i.i _ _ _ (omega arith) c.index-left-i.is (omega arith) c.index-right-i.is c.loop-i.invariant c.in_ok-sum.ensures c.in_ok-push_item.ensures
