@@ -16,15 +16,12 @@ pub struct ElementCase {
 
 impl Case for ElementCase {
     fn begin(alloc: Global, name: &str) -> Result<ElementCase, AllocError> {
-        match String::from_str(alloc, name) {
-            Ok(name) => Ok(ElementCase {
-                name,
-                towers: Towers::new(alloc),
-                values: Values::new(alloc),
-                expected: String::new(alloc),
-            }),
-            Err(error) => Err(error),
-        }
+        Ok(ElementCase {
+            name: String::from_str(alloc, name)?,
+            towers: Towers::new(alloc),
+            values: Values::new(alloc),
+            expected: String::new(alloc),
+        })
     }
 
     fn read(&mut self, alloc: Global, key: &str, value: &str) -> Result<(), Fault> {
@@ -70,10 +67,8 @@ impl ElementCase {
     }
 
     fn differ(&self, alloc: Global, report: &mut Report) -> Result<(), AllocError> {
-        match self.values.text(alloc) {
-            Ok(got) => report.differ(alloc, self.name.as_str(), "values", &self.expected, &got),
-            Err(error) => Err(error),
-        }
+        let got = self.values.text(alloc)?;
+        report.differ(alloc, self.name.as_str(), "values", &self.expected, &got)
     }
 }
 

@@ -69,40 +69,30 @@ fn held(step: Result<(), AllocError>) -> Result<(), Halt> {
 
 // Appends the element that a word stands for.
 fn push_element(alloc: Global, elements: &mut ElemList, word: &str) -> Result<(), Halt> {
-    match element(alloc, word) {
-        Ok(element) => held(elements.push(element)),
-        Err(halt) => Err(halt),
-    }
+    let element = element(alloc, word)?;
+    held(elements.push(element))
 }
 
 /// The elements that words stand for.
 pub fn elements(alloc: Global, words: &str) -> Result<ElemList, Halt> {
     let mut elements = ElemList::new(alloc);
     for word in words.split_whitespace() {
-        match push_element(alloc, &mut elements, word) {
-            Ok(()) => {}
-            Err(halt) => return Err(halt),
-        }
+        push_element(alloc, &mut elements, word)?;
     }
     Ok(elements)
 }
 
 // Appends the polynomial that a word stands for.
 fn push_polynomial(alloc: Global, polynomials: &mut PolyList, word: &str) -> Result<(), Halt> {
-    match polynomial(alloc, word) {
-        Ok(polynomial) => held(polynomials.push(polynomial)),
-        Err(halt) => Err(halt),
-    }
+    let polynomial = polynomial(alloc, word)?;
+    held(polynomials.push(polynomial))
 }
 
 /// The polynomials that words stand for.
 pub fn polynomials(alloc: Global, words: &str) -> Result<PolyList, Halt> {
     let mut polynomials = PolyList::new(alloc);
     for word in words.split_whitespace() {
-        match push_polynomial(alloc, &mut polynomials, word) {
-            Ok(()) => {}
-            Err(halt) => return Err(halt),
-        }
+        push_polynomial(alloc, &mut polynomials, word)?;
     }
     Ok(polynomials)
 }

@@ -39,10 +39,8 @@ fn member(alloc: Global, of: &[Poly]) -> Result<PolyList, AllocError> {
 }
 
 fn push_copy(alloc: Global, to: &mut PolyList, polynomial: &Poly) -> Result<(), AllocError> {
-    match polynomial.copy(alloc) {
-        Ok(copy) => to.push(copy),
-        Err(error) => Err(error),
-    }
+    let copy = polynomial.copy(alloc)?;
+    to.push(copy)
 }
 
 /// Plays the call: the least degree, the number of the coefficients of the first member, and the coefficients of the first two.

@@ -7,13 +7,8 @@ use std::num::ParseIntError;
 /// Counts units, of which there are at most so many.
 pub fn play(operands: &str, values: &mut Values) -> Result<(), ParseIntError> {
     let (most, calls) = first_word(operands);
-    match most.parse() {
-        Ok(most) => match calls.parse() {
-            Ok(calls) => Ok(count(most, calls, values)),
-            Err(error) => Err(error),
-        },
-        Err(error) => Err(error),
-    }
+    count(most.parse()?, calls.parse()?, values);
+    Ok(())
 }
 
 fn count(most: u64, calls: u16, values: &mut Values) {

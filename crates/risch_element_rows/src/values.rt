@@ -48,10 +48,8 @@ fn push_blank(text: &mut String) -> Result<(), AllocError> {
 
 /// Appends words.
 pub fn append(text: &mut String, words: &str) -> Result<(), AllocError> {
-    match push_blank(text) {
-        Ok(()) => text.push_str(words),
-        Err(error) => Err(error),
-    }
+    push_blank(text)?;
+    text.push_str(words)
 }
 
 fn push(text: &mut String, word: &Text) -> Result<(), AllocError> {
@@ -64,10 +62,7 @@ fn push(text: &mut String, word: &Text) -> Result<(), AllocError> {
 
 // Appends the text of a value.
 fn push_formed(text: &mut String, word: Result<Text, AllocError>) -> Result<(), AllocError> {
-    match word {
-        Ok(word) => push(text, &word),
-        Err(error) => Err(error),
-    }
+    push(text, &word?)
 }
 
 impl Value {
